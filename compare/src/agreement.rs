@@ -1,0 +1,131 @@
+//! The prepared pieces held against each other and zeno over many labels: the cells that the oracle
+//! gathers, its runs, bands cut from whole labels, and what refusals leave.
+
+use crate::drawing::{at_a_boundary, ordinary};
+use crate::driver;
+use crate::numbers::Dice;
+use crate::oracle::{self, Fill, Label, Point, Transform};
+use crate::paths::SMALL;
+use crate::reading;
+
+fn assert_cells_paint_the_mask(label: &Label) {
+    let (mask, cells) = oracle::painted_cells(label).unwrap();
+    let painted = oracle::painted(label).unwrap();
+    assert_eq!((&painted.mask, painted.cells), (&mask, cells.len()));
+    let plain = Label {
+        up: false,
+        pitch: label.width,
+        ..*label
+    };
+    let by_the_rule = reading::mask_of(&cells, label.fill, label.width, label.height);
+    assert_eq!(
+        oracle::painted(&plain).unwrap().mask,
+        by_the_rule,
+        "{label:?}"
+    );
+    assert_runs_paint_the_mask(&plain, &by_the_rule);
+}
+
+fn assert_runs_paint_the_mask(plain: &Label, mask: &[u8]) {
+    let mut by_runs = vec![0; mask.len()];
+    for run in oracle::runs(plain).unwrap() {
+        let start = run.row * plain.width + run.column;
+        by_runs[start..start + run.count].fill(run.value);
+    }
+    assert_eq!(by_runs, mask, "{plain:?}");
+}
+
+/// The cells that the oracle gathers are zeno's: painted by document 01's rule they give zeno's
+/// mask, and zeno's runs give it too. Over every seventh small path, both rules.
+#[test]
+fn small_labels_paint_the_same_by_cells_and_by_zeno() {
+    for small in &SMALL {
+        for index in (0..small.count()).step_by(7) {
+            let path = small.path(index);
+            for fill in [Fill::NonZero, Fill::EvenOdd] {
+                assert_cells_paint_the_mask(&Label {
+                    path: &path,
+                    transform: Transform::IDENTITY,
+                    offset: Point::ZERO,
+                    fill,
+                    up: false,
+                    width: 2,
+                    height: 2,
+                    pitch: 2,
+                });
+            }
+        }
+    }
+}
+
+#[test]
+fn random_labels_paint_the_same_by_cells_and_by_zeno() {
+    let mut dice = Dice::new(8);
+    for _ in 0..6000 {
+        let drawing = ordinary(&mut dice);
+        let Ok(path) = reading::judge(&drawing) else {
+            continue;
+        };
+        assert_cells_paint_the_mask(&Label {
+            path: &path,
+            transform: drawing.transform,
+            offset: drawing.offset,
+            fill: drawing.fill,
+            up: drawing.up,
+            width: drawing.width,
+            height: drawing.height,
+            pitch: drawing.pitch,
+        });
+    }
+}
+
+/// A whole label as one band is zeno's own mask, with zeno's own `up` and pitch, laid over the lent
+/// bytes.
+#[test]
+fn a_band_of_every_row_is_the_whole_label() {
+    let mut dice = Dice::new(9);
+    let mut drawn = 0;
+    for _ in 0..4000 {
+        let mut drawing = ordinary(&mut dice);
+        (drawing.first, drawing.end) = (0, drawing.height);
+        let places = drawing.every_place();
+        drawing.lend(0, places);
+        drawing.mask.fill(0);
+        let outcome = driver::outcome(&drawing);
+        match driver::whole(&drawing) {
+            Ok(whole) if outcome.number == 0 => {
+                assert_eq!(outcome.mask, whole.mask);
+                assert_eq!(
+                    (outcome.records, outcome.cells),
+                    (whole.records, whole.cells.len())
+                );
+                drawn += 1;
+            }
+            Ok(_) => assert_eq!(outcome.number, 13),
+            Err(refusal) => assert_eq!(
+                (outcome.number, outcome.index),
+                (refusal.number, refusal.index)
+            ),
+        }
+    }
+    assert!(drawn > 2000, "{drawn}");
+}
+
+/// Refusals leave the mask, and all but 13 leave the words; 0 and 13 wipe them.
+#[test]
+fn outcomes_leave_what_they_must() {
+    let mut dice = Dice::new(10);
+    for _ in 0..6000 {
+        let drawing = at_a_boundary(&mut dice);
+        let outcome = driver::outcome(&drawing);
+        match outcome.number {
+            0 => assert_eq!(outcome.mask.len(), drawing.mask.len()),
+            _ => assert_eq!(outcome.mask, drawing.mask),
+        }
+        match outcome.number {
+            0 | 13 => assert!(outcome.words.iter().all(|&word| word == 0)),
+            _ => assert_eq!(outcome.words, drawing.words),
+        }
+        assert_eq!(outcome.words.len(), drawing.words.len());
+    }
+}

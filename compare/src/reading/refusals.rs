@@ -1,0 +1,157 @@
+//! "When a label is turned away": the table of refusals with its order.
+
+use super::records::{record_at, Record};
+use crate::drawing::Drawing;
+use crate::list;
+use crate::oracle::{Command, Point, Transform};
+
+/// A refusal's number and the index of the record at fault, 0 where there is none.
+#[derive(Clone, Copy, Debug, PartialEq, Eq)]
+pub struct Refusal {
+    pub number: u8,
+    pub index: usize,
+}
+
+/// A call that 1 to 12 let pass: the commands of its list, in order.
+pub type Accepted = Vec<Command>;
+
+/// The largest width and height.
+const SIDE: usize = 2048;
+/// The largest pitch, and the longest list.
+const MOST: usize = 65_536;
+/// The point rule's limit, in 1/256 of a pixel.
+const POINT: f64 = 524_288.0;
+/// The most places of a pool.
+const PLACES: usize = 16_384;
+
+/// Refusals 1 to 12 of a drawing, in their order.
+pub fn judge(drawing: &Drawing) -> Result<Accepted, Refusal> {
+    judge_sizes(drawing)?;
+    judge_floats(&drawing.transform, drawing.offset)?;
+    judge_list(&drawing.list, &drawing.transform, drawing.offset)
+}
+
+/// Refusals 6 to 12 of bounds, "with offset zero".
+pub fn judge_bounds(bytes: &[u8], transform: &Transform) -> Result<Accepted, Refusal> {
+    let zero = Point::new(0.0, 0.0);
+    judge_floats(transform, zero)?;
+    judge_list(bytes, transform, zero)
+}
+
+/// Refusals 6 to 12 of a placement. "For an empty list .. the offset alone must pass the point
+/// rule, else 12 with index 0."
+pub fn judge_placement(
+    bytes: &[u8],
+    transform: &Transform,
+    offset: Point,
+) -> Result<Accepted, Refusal> {
+    judge_floats(transform, offset)?;
+    if bytes.is_empty() && !passes_point_rule(offset) {
+        return refused(12, 0);
+    }
+    judge_list(bytes, transform, offset)
+}
+
+/// "Pool size = (words − rows) / 4 rounded down, at most 16,384." Asked only past refusal 5.
+pub fn pool(words: usize, rows: usize) -> usize {
+    ((words - rows) / 4).min(PLACES)
+}
+
+/// 13: "the drawing stores more distinct places (column, row) than the pool holds".
+pub fn judge_room(places: usize, words: usize, rows: usize) -> Result<(), Refusal> {
+    if places > pool(words, rows) {
+        return refused(13, 0);
+    }
+    Ok(())
+}
+
+/// "Both parts finite, and each part times 256, cut toward zero, from −524,288 to 524,288."
+pub fn passes_point_rule(point: Point) -> bool {
+    [point.x, point.y].iter().all(|&part| {
+        // 256 times a binary32 is exact in binary64.
+        part.is_finite() && (f64::from(part) * 256.0).trunc().abs() <= POINT
+    })
+}
+
+fn refused<T>(number: u8, index: usize) -> Result<T, Refusal> {
+    Err(Refusal { number, index })
+}
+
+/// 1 to 5.
+fn judge_sizes(d: &Drawing) -> Result<(), Refusal> {
+    if d.width > SIDE || d.height > SIDE {
+        return refused(1, 0);
+    }
+    if d.first > d.end || d.end > d.height {
+        return refused(2, 0);
+    }
+    if d.pitch < d.width || d.pitch > MOST {
+        return refused(3, 0);
+    }
+    let rows = d.end - d.first;
+    if rows > 0 && d.mask.len() < d.pitch * (rows - 1) + d.width {
+        return refused(4, 0);
+    }
+    if d.words.len() < rows {
+        return refused(5, 0);
+    }
+    Ok(())
+}
+
+/// 6: "a transform entry or offset part is NaN or infinite".
+fn judge_floats(t: &Transform, offset: Point) -> Result<(), Refusal> {
+    let parts = [t.xx, t.xy, t.yx, t.yy, t.x, t.y, offset.x, offset.y];
+    if parts.iter().all(|part| part.is_finite()) {
+        return Ok(());
+    }
+    refused(6, 0)
+}
+
+/// 7, then "the records, front to back, the first faulty one deciding".
+fn judge_list(bytes: &[u8], transform: &Transform, offset: Point) -> Result<Accepted, Refusal> {
+    if bytes.len() > MOST {
+        return refused(7, 0);
+    }
+    let mut commands = Vec::new();
+    let mut at = 0;
+    loop {
+        let index = commands.len();
+        match record_at(&bytes[at..]) {
+            Record::End => return Ok(commands),
+            Record::Faulty(number) => return refused(number, index),
+            Record::Command(command, taken) => {
+                judge_command(&command, index, transform, offset)?;
+                commands.push(command);
+                at += taken;
+            }
+        }
+    }
+}
+
+/// 11, then 12 for each of the command's points.
+fn judge_command(
+    command: &Command,
+    index: usize,
+    transform: &Transform,
+    offset: Point,
+) -> Result<(), Refusal> {
+    if index == 0 && !matches!(command, Command::MoveTo(_)) {
+        return refused(11, 0);
+    }
+    let (_, points) = list::parts(command);
+    if points
+        .iter()
+        .all(|&p| passes_point_rule(moved(p, transform, offset)))
+    {
+        return Ok(());
+    }
+    refused(12, index)
+}
+
+/// "x' = (x·xx + y·yx) + tx, y' = (x·xy + y·yy) + ty, with each product and sum rounded once, in
+/// that order. Then the offset is added."
+fn moved(p: Point, t: &Transform, offset: Point) -> Point {
+    let x = (p.x * t.xx + p.y * t.yx) + t.x;
+    let y = (p.x * t.xy + p.y * t.yy) + t.y;
+    Point::new(x + offset.x, y + offset.y)
+}

@@ -1,0 +1,4 @@
+pub mod Fixed
+pub mod Scaled
+pub mod Split
+pub mod Table

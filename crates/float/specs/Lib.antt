@@ -1,0 +1,4 @@
+pub mod Bits
+pub mod Cut
+pub mod Round
+pub mod Table

@@ -1,0 +1,3 @@
+pub mod Signs
+pub mod Reach
+pub mod Sides

@@ -1,0 +1,5 @@
+pub mod Affine
+pub mod Box
+pub mod Placing
+pub mod Held
+pub mod Table

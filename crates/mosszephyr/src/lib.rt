@@ -1,0 +1,198 @@
+// The C face. Each function is thin: it hands its numbers to a crate below, whose promise is its own.
+// Functions named mz_test_ are there for the runs against the Rust and are no part of what a program links for.
+use geometry::Bounds;
+use geometry::Origin;
+use geometry::Placed;
+use geometry::Placement;
+use geometry::Point;
+use geometry::Transform;
+ghost use mathlib.Core.Path.{_≡_};
+ghost use Rattle.geometry.specs.Affine.{identityOf, scaleOf, translationOf, combineOf, translatedOf, moved, movedVector};
+ghost use Rattle.geometry.specs.Box.{boxOf};
+ghost use Rattle.geometry.specs.Placing.{placedOf};
+ghost use Rattle.mosszephyr.specs.Tests.{inC, outOfC, pointInC, pointOutOfC, boxInC, boxOutOfC, originOf, placedInC, pairsOf};
+
+#[repr(C)]
+pub struct MzTransform {
+    pub xx: f32,
+    pub xy: f32,
+    pub yx: f32,
+    pub yy: f32,
+    pub x: f32,
+    pub y: f32,
+}
+
+#[repr(C)]
+pub struct MzPoint {
+    pub x: f32,
+    pub y: f32,
+}
+
+#[repr(C)]
+pub struct MzBox {
+    pub min: MzPoint,
+    pub max: MzPoint,
+}
+
+#[repr(C)]
+pub struct MzPlaced {
+    pub placed: bool,
+    pub offset: MzPoint,
+    pub left: i32,
+    pub top: i32,
+    pub width: u32,
+    pub height: u32,
+}
+
+fn transform_of(t: MzTransform) -> Transform
+    ensures { λ r. ⌜ r ≡ outOfC t ⌝ }
+{
+    Transform::new(t.xx, t.xy, t.yx, t.yy, t.x, t.y)
+}
+
+fn mz_transform(t: Transform) -> MzTransform
+    ensures { λ r. ⌜ r ≡ inC t ⌝ }
+{
+    MzTransform {
+        xx: t.xx,
+        xy: t.xy,
+        yx: t.yx,
+        yy: t.yy,
+        x: t.x,
+        y: t.y,
+    }
+}
+
+fn mz_point(p: Point) -> MzPoint
+    ensures { λ r. ⌜ r ≡ pointInC p ⌝ }
+{
+    MzPoint { x: p.x, y: p.y }
+}
+
+fn mz_box(b: Bounds) -> MzBox
+    ensures { λ r. ⌜ r ≡ boxInC b ⌝ }
+{
+    MzBox {
+        min: mz_point(b.min),
+        max: mz_point(b.max),
+    }
+}
+
+fn origin_of(bottom_left: bool) -> Origin
+    ensures { λ r. ⌜ r ≡ originOf «bottom_left» ⌝ }
+{
+    if bottom_left {
+        return Origin::BottomLeft;
+    }
+    Origin::TopLeft
+}
+
+fn mz_placed(p: Placed) -> MzPlaced
+    ensures { λ r. ⌜ r ≡ placedInC p ⌝ }
+{
+    match p {
+        Placed::At { offset, placement } => MzPlaced {
+            placed: true,
+            offset: mz_point(offset),
+            left: placement.left,
+            top: placement.top,
+            width: placement.width,
+            height: placement.height,
+        },
+        Placed::Outside => MzPlaced {
+            placed: false,
+            offset: MzPoint { x: 0.0, y: 0.0 },
+            left: 0,
+            top: 0,
+            width: 0,
+            height: 0,
+        },
+    }
+}
+
+#[no_mangle]
+pub extern "C" fn mz_test_identity() -> MzTransform
+    ensures { λ r. ⌜ r ≡ inC identityOf ⌝ }
+{
+    mz_transform(Transform::identity())
+}
+
+#[no_mangle]
+pub extern "C" fn mz_test_then_scale(t: MzTransform, x: f32, y: f32) -> MzTransform
+    ensures { λ r. ⌜ r ≡ inC (combineOf (outOfC t) (scaleOf x y)) ⌝ }
+{
+    mz_transform(transform_of(t).then_scale(x, y))
+}
+
+#[no_mangle]
+pub extern "C" fn mz_test_then_translate(t: MzTransform, x: f32, y: f32) -> MzTransform
+    ensures { λ r. ⌜ r ≡ inC (translatedOf (outOfC t) x y) ⌝ }
+{
+    mz_transform(transform_of(t).then_translate(x, y))
+}
+
+#[no_mangle]
+pub extern "C" fn mz_test_then(t: MzTransform, u: MzTransform) -> MzTransform
+    ensures { λ r. ⌜ r ≡ inC (combineOf (outOfC t) (outOfC u)) ⌝ }
+{
+    mz_transform(transform_of(t).then(transform_of(u)))
+}
+
+#[no_mangle]
+pub extern "C" fn mz_test_pre_scale(t: MzTransform, x: f32, y: f32) -> MzTransform
+    ensures { λ r. ⌜ r ≡ inC (combineOf (scaleOf x y) (outOfC t)) ⌝ }
+{
+    mz_transform(transform_of(t).pre_scale(x, y))
+}
+
+#[no_mangle]
+pub extern "C" fn mz_test_pre_translate(t: MzTransform, x: f32, y: f32) -> MzTransform
+    ensures { λ r. ⌜ r ≡ inC (combineOf (translationOf x y) (outOfC t)) ⌝ }
+{
+    mz_transform(transform_of(t).pre_translate(x, y))
+}
+
+#[no_mangle]
+pub extern "C" fn mz_test_transform_point(t: MzTransform, p: MzPoint) -> MzPoint
+    ensures { λ r. ⌜ r ≡ pointInC (moved (outOfC t) (pointOutOfC p)) ⌝ }
+{
+    mz_point(transform_of(t).transform_point(Point::new(p.x, p.y)))
+}
+
+#[no_mangle]
+pub extern "C" fn mz_test_transform_vector(t: MzTransform, p: MzPoint) -> MzPoint
+    ensures { λ r. ⌜ r ≡ pointInC (movedVector (outOfC t) (pointOutOfC p)) ⌝ }
+{
+    mz_point(transform_of(t).transform_vector(Point::new(p.x, p.y)))
+}
+
+// The box around points, x and y alternating; an odd last number is left out.
+#[no_mangle]
+pub extern "C" fn mz_test_box(points: &[f32]) -> MzBox
+    ensures { λ r. ⌜ r ≡ boxInC (boxOf (pairsOf (now (points .entry)))) ⌝ }
+{
+    if points.len() < 2 {
+        return mz_box(Bounds::of(Point::new(0.0, 0.0)));
+    }
+    let mut around = Bounds::of(Point::new(points[0], points[1]));
+    let mut i = 2;
+    while i < points.len() - 1 {
+        around = around.add(Point::new(points[i], points[i + 1]));
+        i += 2;
+    }
+    mz_box(around)
+}
+
+#[no_mangle]
+pub extern "C" fn mz_test_place(b: MzBox, offset: MzPoint, bottom_left: bool) -> MzPlaced
+    ensures { λ r. ⌜ r ≡ placedInC (placedOf (originOf «bottom_left») (pointOutOfC offset) (boxOutOfC b)) ⌝ }
+{
+    let min = Point::new(b.min.x, b.min.y);
+    let max = Point::new(b.max.x, b.max.y);
+    let bounds = Bounds::new(min, max);
+    mz_placed(Placement::compute(
+        origin_of(bottom_left),
+        Point::new(offset.x, offset.y),
+        bounds,
+    ))
+}
