@@ -1,5 +1,17 @@
 //! One call of a drawing with all that it is lent, and calls drawn from the dice.
 
+mod limits;
+mod old;
+mod shown;
+mod simpler;
+mod wild;
+
+pub use limits::{at_the_cap, at_the_limits, with_just_room};
+pub use old::soil;
+pub use shown::floats_shown;
+pub use simpler::simpler_floats;
+pub use wild::wild;
+
 use crate::list;
 use crate::numbers::{Dice, Palette};
 use crate::oracle::{Command, Fill, Point, Transform};
@@ -60,28 +72,35 @@ impl Drawing {
     /// something, which no answer may show.
     pub fn lend(&mut self, spare: usize, places: usize) {
         let rows = self.rows();
-        let bytes = rows
-            .checked_sub(1)
-            .map_or(0, |n| n * self.pitch + self.width);
-        self.mask = old_bytes(bytes + spare);
-        self.words = old_words(rows + 4 * places.min(16_384 + 3));
+        self.mask = old::bytes(self.bytes_needed() + spare);
+        self.words = old::words(rows + 4 * places.min(16_384 + 3));
     }
-}
 
-fn old_bytes(count: usize) -> Vec<u8> {
-    (0..count).map(|n| (n % 251) as u8 + 3).collect()
-}
+    /// How many bytes a mask must have: "pitch·(rows−1) + width", none for no rows.
+    pub fn bytes_needed(&self) -> usize {
+        let before_last = self.rows().checked_sub(1);
+        before_last.map_or(0, |rows| rows * self.pitch + self.width)
+    }
 
-fn old_words(count: usize) -> Vec<u32> {
-    (0..count as u32)
-        .map(|n| n.wrapping_mul(0x9e37_79b9) | 1)
-        .collect()
+    /// The same call for the band [first, end), lent a mask that fits and a pool for every place.
+    pub fn band(&self, first: usize, end: usize) -> Drawing {
+        let mut band = self.clone();
+        (band.first, band.end) = (first, end);
+        band.lend(0, band.every_place());
+        band
+    }
 }
 
 /// A call that is mostly accepted: a path of any character under any rule, way, band and pitch.
 pub fn ordinary(dice: &mut Dice) -> Drawing {
+    let character = dice.pick(&Character::ALL);
+    ordinary_of(character, dice)
+}
+
+/// The same with a path of this character.
+pub fn ordinary_of(character: Character, dice: &mut Dice) -> Drawing {
     let (width, height) = size(dice);
-    let path = dice.pick(&Character::ALL).path(width, height, dice);
+    let path = character.path(width, height, dice);
     let mut drawing = Drawing::plain(&path, width, height);
     drawing.fill = dice.pick(&[Fill::NonZero, Fill::EvenOdd]);
     drawing.up = dice.one_in(2);
@@ -102,6 +121,7 @@ pub fn ordinary(dice: &mut Dice) -> Drawing {
     };
     let spare = dice.pick(&[0, 0, 1, 7]);
     drawing.lend(spare, places);
+    soil(&mut drawing, dice);
     drawing
 }
 
@@ -170,18 +190,21 @@ fn longest(dice: &mut Dice) -> Vec<u8> {
     bytes
 }
 
-/// Mostly small labels; now and then one that is as long as may be one way.
+/// Mostly small labels; now and then one as large as an address, or as long as may be one way, and
+/// very seldom both ways.
 fn size(dice: &mut Dice) -> (usize, usize) {
-    match dice.below(40) {
-        0 => (dice.pick(&[2047, 2048]), dice.below(4)),
-        1 => (dice.below(4), dice.pick(&[2047, 2048])),
-        2..=9 => (dice.below(64), dice.below(64)),
+    match dice.below(400) {
+        0 if dice.one_in(20) => (2048, 2048),
+        0 => (400, 120),
+        1..=8 => (dice.pick(&[2047, 2048]), dice.below(4)),
+        9..=16 => (dice.below(4), dice.pick(&[2047, 2048])),
+        17..=90 => (dice.below(64), dice.below(64)),
         _ => (dice.below(9), dice.below(9)),
     }
 }
 
 /// Mirrors, quarter turns, shears, scales up and down, entries that kill a coordinate.
-fn odd_transform(dice: &mut Dice) -> Transform {
+pub fn odd_transform(dice: &mut Dice) -> Transform {
     let entries = [0.0, -0.0, 1.0, -1.0, 0.5, 2.0, 0.3, -1.7, 1.0e-3];
     let mut t = Transform::new(
         dice.pick(&entries),
@@ -202,7 +225,7 @@ fn odd_transform(dice: &mut Dice) -> Transform {
     t
 }
 
-fn odd_offset(dice: &mut Dice) -> Point {
+pub fn odd_offset(dice: &mut Dice) -> Point {
     let mut part = || match dice.below(4) {
         0 => dice.pick(&[0.0, -0.0, 1.0e-30]),
         1 => dice.between(-8, 8) as f32,

@@ -38,29 +38,57 @@ pub fn whole(drawing: &Drawing) -> Result<Whole, Refusal> {
     })
 }
 
-/// The outcome of a call. A band is cut from zeno's whole label: its cells are those of its rows,
-/// and "path row y stands at y − first from the top, or from the bottom when up".
-pub fn outcome(drawing: &Drawing) -> Outcome {
-    let path = match reading::judge(drawing) {
-        Ok(path) => path,
-        Err(refusal) => return refused(drawing, refusal, drawing.words.clone()),
-    };
+/// What a call draws: the whole label, and of its cells the band's.
+pub struct Drawn {
+    /// Height rows of width bytes, not up.
+    pub whole: Vec<u8>,
+    pub records: usize,
+    /// Rows counted from the band's first.
+    pub cells: Vec<CellAt>,
+}
+
+/// Draws a call, all refusals judged. A band is cut from zeno's whole label.
+pub fn drawn(drawing: &Drawing) -> Result<Drawn, Refusal> {
+    let path = reading::judge(drawing)?;
     let label = label_of(drawing, &path, false, drawing.width);
     let (whole, cells) = oracle::painted_cells(&label).expect("an accepted label is within reach");
-    let band = drawing.first..drawing.end;
-    let in_band = |cell: &&CellAt| band.contains(&(cell.row as usize));
-    let cells = cells.iter().filter(in_band).count();
-    let wiped = vec![0; drawing.words.len()];
-    if let Err(refusal) = reading::judge_room(cells, drawing.words.len(), band.len()) {
-        return refused(drawing, refusal, wiped);
-    }
-    Outcome {
-        number: 0,
-        index: 0,
+    let cells = cells_of_band(cells, drawing.first, drawing.end);
+    reading::judge_room(cells.len(), drawing.words.len(), drawing.rows())?;
+    Ok(Drawn {
+        whole,
         records: path.len(),
         cells,
-        mask: band_mask(drawing, &whole),
-        words: wiped,
+    })
+}
+
+fn cells_of_band(cells: Vec<CellAt>, first: usize, end: usize) -> Vec<CellAt> {
+    let (first, end) = (first as i32, end as i32);
+    let in_band = cells
+        .into_iter()
+        .filter(|cell| (first..end).contains(&cell.row));
+    in_band
+        .map(|cell| CellAt {
+            row: cell.row - first,
+            ..cell
+        })
+        .collect()
+}
+
+/// The outcome of a call: "path row y stands at y − first from the top, or from the bottom when up".
+/// "All but 13 leave the workspace unchanged too. After 0 or 13 all its words are zero."
+pub fn outcome(drawing: &Drawing) -> Outcome {
+    let wiped = || vec![0; drawing.words.len()];
+    match drawn(drawing) {
+        Ok(drawn) => Outcome {
+            number: 0,
+            index: 0,
+            records: drawn.records,
+            cells: drawn.cells.len(),
+            mask: band_mask(drawing, &drawn.whole),
+            words: wiped(),
+        },
+        Err(refusal) if refusal.number == 13 => refused(drawing, refusal, wiped()),
+        Err(refusal) => refused(drawing, refusal, drawing.words.clone()),
     }
 }
 

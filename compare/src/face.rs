@@ -1,6 +1,10 @@
 //! The port's C face as safe functions over zeno's own types, so that a comparison says the same
 //! thing to both sides. Only the program declares this module, so only it links the archive.
 
+mod label;
+
+pub use label::{bounds, draw, placement, test_cells, Answer, Drawn};
+
 use compare::oracle::{Bounds, Origin, Placement, Point, Transform};
 
 #[repr(C)]

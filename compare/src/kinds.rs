@@ -1,48 +1,98 @@
 //! A kind of comparison: where its cases come from, how one is judged, and how one that differs is
 //! made smaller. Each kind has its module; the program runs them one behind the other.
 
+pub mod bands;
 pub mod boxes;
+pub mod calls;
+pub mod cells;
+pub mod drawings;
+pub mod lists;
 pub mod maps;
 pub mod placements;
 
 use std::collections::BTreeMap;
 use std::panic::{catch_unwind, AssertUnwindSafe};
+use std::time::{Duration, Instant};
 
 use compare::numbers::{same, shown, Dice};
-use compare::shrink;
+use compare::shrink::{smallest, Candidates};
 
-/// The heading that a case counts under, or in words how the two sides differ.
-pub type Verdict = Result<&'static str, String>;
+/// The heading that a case counts under, and how many parts of it were compared.
+#[derive(Debug)]
+pub struct Agreed {
+    heading: &'static str,
+    parts: usize,
+}
+
+impl From<&'static str> for Agreed {
+    fn from(heading: &'static str) -> Agreed {
+        Agreed { heading, parts: 0 }
+    }
+}
+
+/// What agreed, or in words how the two sides differ.
+pub type Verdict = Result<Agreed, String>;
 
 pub trait Kind {
     type Case: Clone;
 
+    /// What a case's parts are called where they are counted.
+    const PARTS: Option<&'static str> = None;
+
     fn name(&self) -> String;
 
-    fn draw(&self, dice: &mut Dice) -> Self::Case;
+    /// The case of this number; what the number does not say is drawn from the dice.
+    fn draw(&self, number: u64, dice: &mut Dice) -> Self::Case;
 
     /// Gives one case to both sides.
     fn judge(&self, case: &Self::Case) -> Verdict;
 
     /// Simpler cases than this one, the boldest first.
-    fn simpler(&self, case: &Self::Case) -> Vec<Self::Case>;
+    fn simpler<'a>(&self, case: &'a Self::Case) -> Candidates<'a, Self::Case>;
 
     /// The case in words, numbers with their bits.
     fn show(&self, case: &Self::Case) -> String;
 }
 
-/// How many cases counted under each heading.
-pub type Tally = BTreeMap<&'static str, u64>;
+/// How many cases counted under each heading, and their parts.
+#[derive(Default)]
+pub struct Tally {
+    headings: BTreeMap<&'static str, u64>,
+    parts: u64,
+}
+
+impl Tally {
+    fn add(&mut self, agreed: Agreed) {
+        *self.headings.entry(agreed.heading).or_default() += 1;
+        self.parts += agreed.parts as u64;
+    }
+
+    pub fn cases(&self) -> u64 {
+        self.headings.values().sum()
+    }
+
+    /// The headings with their counts, short ones first.
+    pub fn told<K: Kind>(&self) -> String {
+        let mut headings: Vec<_> = self.headings.iter().collect();
+        headings.sort_by_key(|(heading, _)| heading.len());
+        let mut told: Vec<String> = headings
+            .iter()
+            .map(|(heading, count)| format!("{count} {heading}"))
+            .collect();
+        told.extend(K::PARTS.map(|parts| format!("{} {parts} compared", self.parts)));
+        told.join("; ")
+    }
+}
 
 /// Judges so many cases, or stops at the first that differs and tells its smallest form.
 pub fn run<K: Kind>(kind: &K, seed: u64, count: u64) -> Result<Tally, String> {
     let name = kind.name();
     let mut dice = Dice::named(seed, &name);
-    let mut tally = Tally::new();
+    let mut tally = Tally::default();
     for number in 0..count {
-        let case = kind.draw(&mut dice);
+        let case = kind.draw(number, &mut dice);
         match judged(kind, &case) {
-            Ok(heading) => *tally.entry(heading).or_default() += 1,
+            Ok(agreed) => tally.add(agreed),
             Err(_) => {
                 return Err(told(
                     kind,
@@ -61,10 +111,14 @@ fn judged<K: Kind>(kind: &K, case: &K::Case) -> Verdict {
     verdict.unwrap_or_else(|_| Err("a panic".to_string()))
 }
 
+/// How long a smaller form is sought.
+pub const SEEKING: Duration = Duration::from_secs(60);
+
 /// What differs in the smallest form of a case, and the case as it was met.
 fn told<K: Kind>(kind: &K, case: K::Case, place: &str) -> String {
-    let differs = |case: &K::Case| judged(kind, case).is_err();
-    let least = shrink::smallest(case.clone(), |case| kind.simpler(case), differs);
+    let start = Instant::now();
+    let differs = |case: &K::Case| start.elapsed() < SEEKING && judged(kind, case).is_err();
+    let least = smallest(case.clone(), |case| kind.simpler(case), differs);
     let difference = judged(kind, &least).expect_err("the smallest form differs");
     format!(
         "DIFFERENT: {place}\nsmallest form:\n{}{difference}\nas met:\n{}",

@@ -1,6 +1,7 @@
 //! Document 01's "Labels to try", K1 to K12, and other cases at the edge of its rules, held against
 //! the reading, the driver and zeno.
 
+use crate::boundaries::{closed, rectangle};
 use crate::drawing::Drawing;
 use crate::driver::{self, Outcome};
 use crate::list;
@@ -11,19 +12,6 @@ use crate::reading::{self, Refusal};
 
 fn at(x: f32, y: f32) -> Point {
     Point::new(x, y)
-}
-
-/// Lines through these points, closed.
-fn closed(points: &[(f32, f32)]) -> Vec<Command> {
-    let mut path = vec![Command::MoveTo(at(points[0].0, points[0].1))];
-    path.extend(points[1..].iter().map(|&(x, y)| Command::LineTo(at(x, y))));
-    path.push(Command::Close);
-    path
-}
-
-/// A rectangle in the order of K1: right along the top first.
-fn rectangle(left: f32, top: f32, right: f32, bottom: f32) -> Vec<Command> {
-    closed(&[(left, top), (right, top), (right, bottom), (left, bottom)])
 }
 
 fn drawn(path: &[Command], width: usize, height: usize) -> Outcome {

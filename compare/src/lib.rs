@@ -6,22 +6,34 @@
 //! | `zeno` | zeno's three files, unchanged, and what they import |
 //! | `oracle` | safe functions over zeno: masks, cells, runs, bounds, placements |
 //! | `numbers` | the dice, and numbers of every character |
-//! | `list` | path lists, written as bytes |
-//! | `paths` | paths of every character, exhaustive small ones, damaged lists |
-//! | `drawing` | one call of a drawing, and calls drawn from the dice |
+//! | `list` | path lists: written as bytes, told in words, made simpler |
+//! | `paths` | paths of every character, exhaustive small ones, text, large ones, damaged lists |
+//! | `drawing` | one call of a drawing; calls drawn from the dice, at boundaries, at limits, wild ones |
+//! | `placing` | one call of bounds or of a placement, and such calls drawn from the dice |
+//! | `boundaries` | every boundary and refusal of document 01 as a table written by hand |
 //! | `reading` | document 01's refusals, boxes, placements and pixels, read independently |
 //! | `driver` | what a call must leave behind, by the reading and zeno together |
+//! | `pool` | the cells in the words of a workspace |
+//! | `lent` | what is lent to the port, between marks |
+//! | `fixture` | stored answers for another program to replay |
 //! | `shrink` | a smaller form of a case that differs |
+//! | `flags` | a command's flags |
 
 // Decimals are written as document 01 has them, exactly.
 #![allow(clippy::excessive_precision)]
 
+pub mod boundaries;
 pub mod drawing;
 pub mod driver;
+pub mod fixture;
+pub mod flags;
+pub mod lent;
 pub mod list;
 pub mod numbers;
 pub mod oracle;
 pub mod paths;
+pub mod placing;
+pub mod pool;
 pub mod reading;
 pub mod shrink;
 pub mod zeno;

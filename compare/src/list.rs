@@ -1,6 +1,12 @@
 //! Path lists as document 01 writes them: a 2-byte length that counts the bytes after itself, a
 //! 2-byte kind, then the coordinates, all little-endian.
 
+mod shown;
+mod simpler;
+
+pub use shown::shown;
+pub use simpler::{plainer, shorter};
+
 use crate::oracle::{Command, Point};
 
 /// A path as the bytes of its list.

@@ -1,95 +1,76 @@
 //! Gives the same inputs to zeno and to the port and compares every answer.
 //!
-//!     compare [--seed S] [--scale N]
+//!     compare [--seed S] [--scale N] [--only KIND]
+//!     compare bench [--labels N] [--rounds N] [--only text|curves|lines]
+//!     compare fixture OUT
+//!     compare fuzz --seconds N [--seed S]
+//!     compare cells
 //!
-//! Without flags it is the run of the gate: fixed seed, fixed counts. `--scale` multiplies the
-//! counts. It prints how many cases of which kind were compared, and stops with status 1 at the
-//! first difference, which it tells in the smallest form that it finds.
+//! Without words it is the run of the gate: fixed seed, fixed counts. `--scale` multiplies the counts
+//! that are not exhaustive (`--only drawings --scale 20` draws five million labels), `--only` takes a
+//! group or words of a kind's name. It prints how many cases of which kind were compared, and stops
+//! with status 1 at the first difference, which it tells in the smallest form that it finds.
+//!
+//! `bench` times both sides, `fixture` writes zeno's answers for another program to replay, `fuzz`
+//! throws damaged and random calls at the port with marks around all that it lends, `cells` prints
+//! zeno's cells of the worked examples in the rules.
 
+mod bench;
 mod face;
+mod fuzz;
 mod kinds;
+mod runs;
+mod worked;
 
 use std::process::ExitCode;
 
-use compare::oracle::Origin;
-use kinds::{boxes::Boxes, maps, placements::Placements, run, Kind};
-
-/// Cases of each kind in the gate's run.
-const CASES: u64 = 1_000_000;
-
-const SEED: u64 = 20_260_101;
-
-const USAGE: &str = "usage: compare [--seed S] [--scale N]";
-
-struct Settings {
-    seed: u64,
-    scale: u64,
-}
+use compare::fixture::fixture;
+use runs::Stopped;
 
 fn main() -> ExitCode {
-    let settings = match settings(std::env::args().skip(1)) {
-        Ok(settings) => settings,
-        Err(what) => {
-            eprintln!("compare: {what}\n{USAGE}");
-            return ExitCode::from(2);
+    let words: Vec<String> = std::env::args().skip(1).collect();
+    let done = match words.first().map(String::as_str) {
+        Some("bench") => bench::bench(&words[1..]),
+        Some("fixture") => write_fixture(&words[1..]),
+        Some("fuzz") => fuzz::fuzz(&words[1..]),
+        Some("cells") => {
+            worked::print_cells();
+            Ok(())
         }
+        _ => runs::compared(&words),
     };
-    match compared(&settings) {
-        Ok(total) => {
-            println!("{total:>12}  cases in all, no difference");
-            ExitCode::SUCCESS
-        }
-        Err(difference) => {
-            println!("{difference}");
+    match done {
+        Ok(()) => ExitCode::SUCCESS,
+        Err(Stopped::Different(what)) => {
+            println!("{what}");
             ExitCode::FAILURE
         }
+        Err(Stopped::Asked(what)) => {
+            let usages = [
+                runs::USAGE,
+                bench::USAGE,
+                "compare fixture OUT",
+                fuzz::USAGE,
+                worked::USAGE,
+            ];
+            eprintln!("compare: {what}\nusage: {}", usages.join("\n       "));
+            ExitCode::from(2)
+        }
     }
 }
 
-fn settings(mut words: impl Iterator<Item = String>) -> Result<Settings, String> {
-    let mut settings = Settings {
-        seed: SEED,
-        scale: 1,
+fn write_fixture(words: &[String]) -> Result<(), Stopped> {
+    let [path] = words else {
+        return Err(Stopped::Asked("fixture needs a file to write".to_string()));
     };
-    while let Some(flag) = words.next() {
-        let place = match flag.as_str() {
-            "--seed" => &mut settings.seed,
-            "--scale" => &mut settings.scale,
-            _ => return Err(format!("what is {flag}?")),
-        };
-        let number = words.next().and_then(|word| word.parse().ok());
-        *place = number.ok_or(format!("{flag} needs a whole number"))?;
-    }
-    Ok(settings)
-}
-
-/// Runs every kind, and counts the cases.
-fn compared(settings: &Settings) -> Result<u64, String> {
-    let mut total = told(&maps::IDENTITY, settings, 1)?;
-    let cases = CASES * settings.scale;
-    for map in &maps::TRANSFORMS {
-        total += told(map, settings, cases)?;
-    }
-    for map in &maps::POINTS {
-        total += told(map, settings, cases)?;
-    }
-    for boxes in [Boxes::Finite, Boxes::Any] {
-        total += told(&boxes, settings, cases)?;
-    }
-    for origin in [Origin::TopLeft, Origin::BottomLeft] {
-        total += told(&Placements(origin), settings, cases)?;
-    }
-    Ok(total)
-}
-
-/// Runs one kind and prints its counts, a line for the kind and what is in it behind.
-fn told(kind: &impl Kind, settings: &Settings, count: u64) -> Result<u64, String> {
-    let tally = run(kind, settings.seed, count)?;
-    let total: u64 = tally.values().sum();
-    let headings: Vec<String> = tally
-        .iter()
-        .map(|(heading, count)| format!("{count} {heading}"))
-        .collect();
-    println!("{total:>12}  {}: {}", kind.name(), headings.join("; "));
-    Ok(total)
+    let fixture = fixture();
+    let failed = |error| Stopped::Asked(format!("{path}: {error}"));
+    std::fs::write(path, &fixture.bytes).map_err(failed)?;
+    println!(
+        "{path}: {} drawings, {} placements, {} bytes",
+        fixture.drawings,
+        fixture.placements,
+        fixture.bytes.len()
+    );
+    Ok(())
 }

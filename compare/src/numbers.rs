@@ -15,11 +15,7 @@ impl Dice {
 
     /// Dice for one named kind of case, so that a new kind leaves the cases of the others alone.
     pub fn named(seed: u64, name: &str) -> Dice {
-        let start = 0xcbf2_9ce4_8422_2325_u64;
-        let hash = name.bytes().fold(start, |hash, byte| {
-            (hash ^ u64::from(byte)).wrapping_mul(0x0100_0000_01b3)
-        });
-        Dice::new(seed ^ hash)
+        Dice::new(seed ^ fnv1a(name.as_bytes()))
     }
 
     /// 64 random bits.
@@ -56,6 +52,14 @@ fn splitmix64(at: &mut u64) -> u64 {
     let mixed = (*at ^ (*at >> 30)).wrapping_mul(0xbf58_476d_1ce4_e5b9);
     let mixed = (mixed ^ (mixed >> 27)).wrapping_mul(0x94d0_49bb_1331_11eb);
     mixed ^ (mixed >> 31)
+}
+
+/// The 64-bit FNV-1a checksum.
+pub fn fnv1a(bytes: &[u8]) -> u64 {
+    let start = 0xcbf2_9ce4_8422_2325_u64;
+    bytes.iter().fold(start, |hash, &byte| {
+        (hash ^ u64::from(byte)).wrapping_mul(0x0100_0000_01b3)
+    })
 }
 
 /// Which characters the numbers of one case have. A case takes all its numbers from one palette:
@@ -210,6 +214,13 @@ mod tests {
         };
         assert_eq!(draw(7), draw(7));
         assert_ne!(draw(7), draw(8));
+    }
+
+    /// The checksums of nothing and of "foobar" as published with FNV.
+    #[test]
+    fn checksum_is_fnv1a() {
+        assert_eq!(fnv1a(b""), 0xcbf2_9ce4_8422_2325);
+        assert_eq!(fnv1a(b"foobar"), 0x8594_4171_f739_67e8);
     }
 
     #[test]

@@ -4,10 +4,11 @@
 //! `Bounds::from_points`; the rasterizer needs the care that stands here.
 
 use crate::zeno::path_data;
-use crate::zeno::raster::{Cell, FixedPoint, HeapStorage, RasterStorage, Rasterizer};
+use crate::zeno::raster::{Cell, FixedPoint, RasterStorage, Rasterizer};
 
 pub use crate::zeno::command::Command;
 pub use crate::zeno::geometry::{Bounds, Origin, Placement, Point, Transform, Vector};
+pub use crate::zeno::raster::HeapStorage;
 pub use crate::zeno::style::Fill;
 
 /// A whole label for zeno to draw.
@@ -134,23 +135,45 @@ fn within_reach(label: &Label, command: &Command) -> bool {
 }
 
 fn rasterize(label: &Label, storage: &mut impl RasterStorage) -> Option<Vec<u8>> {
-    if !may_be_asked(label) {
-        return None;
-    }
+    let askable = Askable::new(*label)?;
     let rows_before_last = label.height.checked_sub(1);
     let length = rows_before_last.map_or(0, |rows| label.pitch * rows + label.width);
     let mut mask = vec![0; length];
-    Rasterizer::new(storage).rasterize(
-        label.offset,
-        label.width as u32,
-        label.height as u32,
-        &mut |sink| path_data::apply(label.path, label.transform, sink),
-        label.fill,
-        &mut mask,
-        label.pitch,
-        label.up,
-    );
+    askable.paint(storage, &mut mask, || {});
     Some(mask)
+}
+
+/// A label that zeno may be asked for, found so once, to be drawn any number of times.
+pub struct Askable<'a>(Label<'a>);
+
+impl<'a> Askable<'a> {
+    pub fn new(label: Label<'a>) -> Option<Askable<'a>> {
+        may_be_asked(&label).then_some(Askable(label))
+    }
+
+    /// Draws into a mask of zeros. `when_drawn` is called between the path and the sweep.
+    pub fn paint(
+        &self,
+        storage: &mut impl RasterStorage,
+        mask: &mut [u8],
+        mut when_drawn: impl FnMut(),
+    ) {
+        let label = &self.0;
+        let mut apply = |sink: &mut Rasterizer<'_, _>| {
+            path_data::apply(label.path, label.transform, sink);
+            when_drawn();
+        };
+        Rasterizer::new(storage).rasterize(
+            label.offset,
+            label.width as u32,
+            label.height as u32,
+            &mut apply,
+            label.fill,
+            mask,
+            label.pitch,
+            label.up,
+        );
+    }
 }
 
 /// `HeapStorage` with a note of every pair that it is given.

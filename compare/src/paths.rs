@@ -2,10 +2,14 @@
 //! given size, and lists damaged in one place.
 
 mod damaged;
+mod large;
 mod small;
+mod text;
 
 pub use damaged::damaged;
+pub use large::{large_curves, thin_bar};
 pub use small::{Shape, Small, SMALL};
+pub use text::{address, ADDRESS};
 
 use crate::numbers::Dice;
 use crate::oracle::{Command, Point};
@@ -54,6 +58,24 @@ impl Character {
         Character::Subpaths,
         Character::Anything,
     ];
+
+    pub fn name(self) -> &'static str {
+        match self {
+            Character::Edges => "edges",
+            Character::Corners => "corners",
+            Character::Diagonals => "diagonals",
+            Character::Limits => "limits",
+            Character::Left => "left of the label",
+            Character::Right => "right of the label",
+            Character::Above => "above the label",
+            Character::Below => "below the label",
+            Character::DegenerateCurves => "degenerate curves",
+            Character::HugeCurves => "huge curves",
+            Character::AfterClose => "drawing after Close",
+            Character::Subpaths => "subpaths",
+            Character::Anything => "anything",
+        }
+    }
 
     /// A path that starts with a MoveTo, for a label of this size. Every point passes the point
     /// rule where no transform and no offset move it.

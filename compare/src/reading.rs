@@ -9,7 +9,7 @@ mod refusals;
 
 pub use boxes::{box_of, place_is_refused, within_axis};
 pub use pixels::{byte_of, mask_of};
-pub use records::{record_at, Record, LENGTHS};
+pub use records::{record_at, record_starts, Record, LENGTHS};
 pub use refusals::{
     judge, judge_bounds, judge_placement, judge_room, passes_point_rule, pool, Accepted, Refusal,
 };

@@ -1,13 +1,23 @@
 //! A smaller form of a case that differs: simpler candidates are tried until none differs.
 
+/// Simpler forms of a case, made as they are asked for.
+pub type Candidates<'a, C> = Box<dyn Iterator<Item = C> + 'a>;
+
 /// The simplest case to be reached that still differs. `simpler` offers candidates, the boldest
 /// first; each must be simpler than its case, so that this ends.
-pub fn smallest<C>(case: C, simpler: impl Fn(&C) -> Vec<C>, differs: impl Fn(&C) -> bool) -> C {
+pub fn smallest<C>(
+    case: C,
+    simpler: impl for<'a> Fn(&'a C) -> Candidates<'a, C>,
+    differs: impl Fn(&C) -> bool,
+) -> C {
     let mut case = case;
-    while let Some(next) = simpler(&case).into_iter().find(&differs) {
-        case = next;
+    loop {
+        let next = simpler(&case).find(&differs);
+        match next {
+            Some(next) => case = next,
+            None => return case,
+        }
     }
-    case
 }
 
 /// The same numbers with one made simpler.
@@ -74,12 +84,21 @@ mod tests {
     use super::*;
     use crate::numbers::{Dice, Palette};
 
+    fn simpler(numbers: &[f32]) -> Candidates<'_, Vec<f32>> {
+        let shorter = shorter_numbers(numbers, 1).into_iter();
+        Box::new(shorter.chain(simpler_numbers(numbers)))
+    }
+
     #[test]
     fn candidates_are_simpler_and_shrinking_ends() {
         let mut dice = Dice::new(7);
         for _ in 0..2000 {
             let numbers = Palette::draw(&mut dice).numbers(&mut dice, 3);
-            let least = smallest(numbers, |n| simpler_numbers(n), |_| true);
+            let least = smallest(
+                numbers,
+                |n| Box::new(simpler_numbers(n).into_iter()),
+                |_| true,
+            );
             assert!(least.iter().all(|n| n.to_bits() == 0));
         }
     }
@@ -88,12 +107,7 @@ mod tests {
     fn what_the_difference_needs_is_kept() {
         let case = vec![7.25, -0.0, 900.5, 3.0e38, 12.0];
         let differs = |n: &Vec<f32>| n.len() >= 2 && n.iter().any(|v| *v >= 100.0);
-        let simpler = |n: &Vec<f32>| {
-            let mut candidates = shorter_numbers(n, 1);
-            candidates.extend(simpler_numbers(n));
-            candidates
-        };
-        let least = smallest(case, simpler, differs);
+        let least = smallest(case, |n| simpler(n), differs);
         assert_eq!(least.len(), 2);
         assert!(
             least.iter().any(|v| (100.0..200.0).contains(v)),

@@ -6,7 +6,7 @@ use crate::face;
 use compare::numbers::{Dice, Palette};
 use compare::oracle::{Bounds, Point};
 use compare::reading::{box_of, within_axis};
-use compare::shrink::{shorter_numbers, simpler_numbers};
+use compare::shrink::{shorter_numbers, simpler_numbers, Candidates};
 
 /// Points of finite numbers only, or of every character.
 pub enum Boxes {
@@ -28,7 +28,7 @@ impl Kind for Boxes {
 
     /// Mostly a few numbers, an odd count as often as an even one. Of infinite and NaN ones there
     /// are often several on an axis, and now and then nothing else.
-    fn draw(&self, dice: &mut Dice) -> Vec<f32> {
+    fn draw(&self, _: u64, dice: &mut Dice) -> Vec<f32> {
         let count = match dice.below(16) {
             0 => dice.below(100),
             1..=5 => dice.below(3),
@@ -66,18 +66,18 @@ impl Kind for Boxes {
                 )?;
             }
         }
-        Ok(match (with_x, with_y) {
+        let heading = match (with_x, with_y) {
             (true, true) => "by the rule, and zeno on both axes",
             (false, false) => "by the rule alone",
             _ => "by the rule, and zeno on one axis",
-        })
+        };
+        Ok(heading.into())
     }
 
-    fn simpler(&self, case: &Vec<f32>) -> Vec<Vec<f32>> {
-        let mut candidates = shorter_numbers(case, 2);
-        candidates.extend(shorter_numbers(case, 1));
-        candidates.extend(simpler_numbers(case));
-        candidates
+    fn simpler<'a>(&self, case: &'a Vec<f32>) -> Candidates<'a, Vec<f32>> {
+        let points = shorter_numbers(case, 2).into_iter();
+        let numbers = shorter_numbers(case, 1).into_iter();
+        Box::new(points.chain(numbers).chain(simpler_numbers(case)))
     }
 
     fn show(&self, case: &Vec<f32>) -> String {

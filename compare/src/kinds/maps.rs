@@ -4,7 +4,7 @@ use super::{agree, listed, Kind, Verdict};
 use crate::face;
 use compare::numbers::{Dice, Palette};
 use compare::oracle::{Point, Transform};
-use compare::shrink::simpler_numbers;
+use compare::shrink::{simpler_numbers, Candidates};
 
 /// One function on both sides. Its first six numbers are a transform.
 pub struct Map<const N: usize> {
@@ -109,7 +109,7 @@ impl<const N: usize> Kind for Map<N> {
     }
 
     /// Numbers of one palette; one time in three a chain's transform, with zeros beside its scale.
-    fn draw(&self, dice: &mut Dice) -> Vec<f32> {
+    fn draw(&self, _: u64, dice: &mut Dice) -> Vec<f32> {
         let palette = Palette::draw(dice);
         let mut numbers = palette.numbers(dice, self.inputs.len());
         if numbers.len() >= 6 && dice.one_in(3) {
@@ -122,13 +122,13 @@ impl<const N: usize> Kind for Map<N> {
         let (ours, zeno) = ((self.ours)(case), (self.zeno)(case));
         agree("zeno", &self.outputs, &ours, &zeno)?;
         if zeno.iter().any(|part| part.is_nan()) {
-            return Ok("a NaN in the answer");
+            return Ok("a NaN in the answer".into());
         }
-        Ok("numbers in the answer")
+        Ok("numbers in the answer".into())
     }
 
-    fn simpler(&self, case: &Vec<f32>) -> Vec<Vec<f32>> {
-        simpler_numbers(case)
+    fn simpler<'a>(&self, case: &'a Vec<f32>) -> Candidates<'a, Vec<f32>> {
+        Box::new(simpler_numbers(case).into_iter())
     }
 
     fn show(&self, case: &Vec<f32>) -> String {

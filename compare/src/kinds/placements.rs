@@ -6,7 +6,7 @@ use crate::face::{self, Placed};
 use compare::numbers::{Dice, Palette};
 use compare::oracle::{Bounds, Origin, Placement, Point};
 use compare::reading::place_is_refused;
-use compare::shrink::simpler_numbers;
+use compare::shrink::{simpler_numbers, Candidates};
 
 /// Placements from one origin.
 pub struct Placements(pub Origin);
@@ -25,7 +25,7 @@ impl Kind for Placements {
 
     /// Boxes and offsets of any numbers, most often of such as are placed; some put in order, some
     /// with sums near 2^23.
-    fn draw(&self, dice: &mut Dice) -> Vec<f32> {
+    fn draw(&self, _: u64, dice: &mut Dice) -> Vec<f32> {
         let palette = match dice.below(3) {
             0 => Palette::draw(dice),
             _ => dice.pick(&[Palette::Plain, Palette::Label, Palette::Rounding]),
@@ -50,18 +50,19 @@ impl Kind for Placements {
         let ours = face::place(b, offset, self.0);
         if place_is_refused(&b, offset) {
             let nothing = (Point::ZERO, Placement::default());
-            return agree_on("the rule", &ours, false, nothing).map(|()| "not placed");
+            agree_on("the rule", &ours, false, nothing)?;
+            return Ok("not placed".into());
         }
         let zeno = Placement::compute(self.0, offset, &b);
         agree_on("zeno", &ours, true, zeno)?;
         if b.max.x < b.min.x || b.max.y < b.min.y {
-            return Ok("placed, the box inverted");
+            return Ok("placed, the box inverted".into());
         }
-        Ok("placed")
+        Ok("placed".into())
     }
 
-    fn simpler(&self, case: &Vec<f32>) -> Vec<Vec<f32>> {
-        simpler_numbers(case)
+    fn simpler<'a>(&self, case: &'a Vec<f32>) -> Candidates<'a, Vec<f32>> {
+        Box::new(simpler_numbers(case).into_iter())
     }
 
     fn show(&self, case: &Vec<f32>) -> String {

@@ -1,7 +1,7 @@
 //! Lists with one fault, or one that only looks like it.
 
 use crate::numbers::Dice;
-use crate::reading::{record_at, Record};
+use crate::reading::record_starts;
 
 /// A list spoilt in one place: cut, lengthened, or with a header, a number or a bit changed.
 pub fn damaged(list: &[u8], dice: &mut Dice) -> Vec<u8> {
@@ -22,17 +22,6 @@ pub fn damaged(list: &[u8], dice: &mut Dice) -> Vec<u8> {
         _ => bytes[dice.below(list.len())] ^= 1 << dice.below(8),
     }
     bytes
-}
-
-/// Where the records of a list start, up to a faulty one.
-fn record_starts(list: &[u8]) -> Vec<usize> {
-    let mut starts = Vec::new();
-    let mut at = 0;
-    while let Record::Command(_, taken) = record_at(&list[at..]) {
-        starts.push(at);
-        at += taken;
-    }
-    starts
 }
 
 /// One to three bytes behind the end: too few for a header.

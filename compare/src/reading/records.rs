@@ -51,3 +51,14 @@ fn point_at(body: &[u8]) -> Point {
     let part = |at: usize| f32::from_le_bytes([body[at], body[at + 1], body[at + 2], body[at + 3]]);
     Point::new(part(0), part(4))
 }
+
+/// Where the records of a list start, up to a faulty one.
+pub fn record_starts(list: &[u8]) -> Vec<usize> {
+    let mut starts = Vec::new();
+    let mut at = 0;
+    while let Record::Command(_, taken) = record_at(&list[at..]) {
+        starts.push(at);
+        at += taken;
+    }
+    starts
+}

@@ -1,15 +1,25 @@
-// The C face. Each function is thin: it hands its numbers to a crate below, whose promise is its own.
-// Functions named mz_test_ are there for the runs against the Rust and are no part of what a program links for.
+// The C face (bindings/mosszephyr.h): mz_draw, mz_bounds and mz_placement. Each function is thin: it hands its numbers to a
+// crate below, whose promise is its own. The functions named mz_test_ serve the runs against the Rust and nothing else.
 use geometry::Bounds;
 use geometry::Origin;
 use geometry::Placed;
 use geometry::Placement;
 use geometry::Point;
 use geometry::Transform;
+use label::Label;
+use label::Numbers;
+use placing::BoxNumbers;
+use placing::PlaceNumbers;
+use sweep::Fill;
 ghost use mathlib.Core.Path.{_≡_};
-ghost use Rattle.geometry.specs.Affine.{identityOf, scaleOf, translationOf, combineOf, translatedOf, moved, movedVector};
+ghost use mathlib.Core.Bool.{false};
+ghost use Rattle.geometry.specs.Affine.{pointOf, identityOf, scaleOf, translationOf, combineOf, translatedOf, moved, movedVector};
 ghost use Rattle.geometry.specs.Box.{boxOf};
 ghost use Rattle.geometry.specs.Placing.{placedOf};
+ghost use Rattle.label.specs.Draw.{numbersOf};
+ghost use Rattle.placing.specs.Placing.{boundsOf, laidOf};
+ghost use Rattle.placing.specs.Numbers.{boxNumbersOf, placeNumbersOf};
+ghost use Rattle.mosszephyr.specs.Face.{fillOf, labelOf, Drawn, Celled};
 ghost use Rattle.mosszephyr.specs.Tests.{inC, outOfC, pointInC, pointOutOfC, boxInC, boxOutOfC, originOf, placedInC, pairsOf};
 
 #[repr(C)]
@@ -20,6 +30,130 @@ pub struct MzTransform {
     pub yy: f32,
     pub x: f32,
     pub y: f32,
+}
+
+// What the calls answer, in the paper's numbers.
+pub type MzDrawn = Numbers;
+
+pub type MzBounds = BoxNumbers;
+
+pub type MzPlacement = PlaceNumbers;
+
+fn transform_of(t: MzTransform) -> Transform
+    ensures { λ r. ⌜ r ≡ outOfC t ⌝ }
+{
+    Transform::new(t.xx, t.xy, t.yx, t.yy, t.x, t.y)
+}
+
+fn origin_of(bottom_left: bool) -> Origin
+    ensures { λ r. ⌜ r ≡ originOf «bottom_left» ⌝ }
+{
+    if bottom_left {
+        return Origin::BottomLeft;
+    }
+    Origin::TopLeft
+}
+
+fn fill_of(even_odd: bool) -> Fill
+    ensures { λ r. ⌜ r ≡ fillOf «even_odd» ⌝ }
+{
+    if even_odd {
+        return Fill::EvenOdd;
+    }
+    Fill::NonZero
+}
+
+// Draws a label's band into the mask.
+#[no_mangle]
+pub extern "C" fn mz_draw(
+    list: &[u8],
+    transform: MzTransform,
+    offset_x: f32,
+    offset_y: f32,
+    even_odd: bool,
+    up: bool,
+    width: usize,
+    height: usize,
+    pitch: usize,
+    first: usize,
+    end: usize,
+    mask: &mut [u8],
+    words: &mut [u32],
+) -> MzDrawn
+    ensures { λ r. ⌜ Drawn (labelOf transform «offset_x» «offset_y» «even_odd» up width height pitch first end) (now (list .entry))
+        (now (mask .entry)) (now (words .entry)) (now (mask .exit)) (now (words .exit)) r ⌝ }
+{
+    let label = Label {
+        transform: transform_of(transform),
+        offset: Point::new(offset_x, offset_y),
+        fill: fill_of(even_odd),
+        up,
+        width,
+        height,
+        pitch,
+        first,
+        end,
+    };
+    label::numbers_of(label::draw(list, label, mask, words))
+}
+
+// The box of a list's transformed points.
+#[no_mangle]
+pub extern "C" fn mz_bounds(list: &[u8], transform: MzTransform) -> MzBounds
+    ensures { λ r. ⌜ r ≡ boxNumbersOf (boundsOf (outOfC transform) (now (list .entry))) ⌝ }
+{
+    placing::box_numbers(placing::bounds(list, transform_of(transform)))
+}
+
+// Where the mask of a list lies, and its size.
+#[no_mangle]
+pub extern "C" fn mz_placement(
+    list: &[u8],
+    transform: MzTransform,
+    offset_x: f32,
+    offset_y: f32,
+    bottom_left: bool,
+) -> MzPlacement
+    ensures { λ r. ⌜ r ≡ placeNumbersOf (laidOf (originOf «bottom_left») (outOfC transform) (pointOf «offset_x» «offset_y») (now (list .entry))) ⌝ }
+{
+    placing::place_numbers(placing::placement(
+        list,
+        transform_of(transform),
+        Point::new(offset_x, offset_y),
+        origin_of(bottom_left),
+    ))
+}
+
+// ---- for the runs against the Rust
+
+// Draws as mz_draw does with pitch = width and a mask long enough, and leaves the cells in the words.
+#[no_mangle]
+pub extern "C" fn mz_test_cells(
+    list: &[u8],
+    transform: MzTransform,
+    offset_x: f32,
+    offset_y: f32,
+    width: usize,
+    height: usize,
+    first: usize,
+    end: usize,
+    words: &mut [u32],
+) -> MzDrawn
+    ensures { λ r. ⌜ Celled (labelOf transform «offset_x» «offset_y» false false width height width first end) (now (list .entry))
+        (now (words .entry)) (now (words .exit)) r ⌝ }
+{
+    let label = Label {
+        transform: transform_of(transform),
+        offset: Point::new(offset_x, offset_y),
+        fill: Fill::NonZero,
+        up: false,
+        width,
+        height,
+        pitch: width,
+        first,
+        end,
+    };
+    label::numbers_of(label::cells(list, label, 0xffff_ffff_ffff_ffff, words))
 }
 
 #[repr(C)]
@@ -42,12 +176,6 @@ pub struct MzPlaced {
     pub top: i32,
     pub width: u32,
     pub height: u32,
-}
-
-fn transform_of(t: MzTransform) -> Transform
-    ensures { λ r. ⌜ r ≡ outOfC t ⌝ }
-{
-    Transform::new(t.xx, t.xy, t.yx, t.yy, t.x, t.y)
 }
 
 fn mz_transform(t: Transform) -> MzTransform
@@ -76,15 +204,6 @@ fn mz_box(b: Bounds) -> MzBox
         min: mz_point(b.min),
         max: mz_point(b.max),
     }
-}
-
-fn origin_of(bottom_left: bool) -> Origin
-    ensures { λ r. ⌜ r ≡ originOf «bottom_left» ⌝ }
-{
-    if bottom_left {
-        return Origin::BottomLeft;
-    }
-    Origin::TopLeft
 }
 
 fn mz_placed(p: Placed) -> MzPlaced

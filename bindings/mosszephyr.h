@@ -1,0 +1,226 @@
+/*
+ * Mosszephyr: draws an address label, given as a path list, into a mask of one byte a pixel.
+ *
+ * Link with target/staticlib/libmosszephyr.a (x86-64), which `rt staticlib mosszephyr` writes at
+ * the repository's root. C11 and C++11 can include this file.
+ *
+ *
+ * The path list
+ * -------------
+ * A list is bytes, at most 65,536 of them: records behind each other, with nothing between, before
+ * or after. A record is a 2-byte length, a 2-byte kind, then coordinates, all little-endian. The
+ * length counts the bytes after itself. A coordinate is an IEEE 754 binary32 number, x before y.
+ *
+ *     kind  command             length  record's bytes
+ *        1  MoveTo p                10              12
+ *        2  LineTo p                10              12
+ *        3  QuadTo c, p             18              20
+ *        4  CurveTo c1, c2, p       26              28
+ *        5  Close                    2               4
+ *
+ * MoveTo (1,1) is 0A 00 01 00 00 00 80 3F 00 00 80 3F; Close is 02 00 05 00. The first record is a
+ * MoveTo. An empty list is a valid, empty path. MoveTo and the end close an open subpath. Drawing
+ * after Close goes on from the closed subpath's start.
+ *
+ * A point (x, y) becomes x' = (x*xx + y*yx) + tx, y' = (x*xy + y*yy) + ty, each product and sum
+ * rounded once, in that order; then the offset is added. Both parts must then be finite and, times
+ * 256 and cut toward zero, lie from -524288 to 524288: 2048.0 passes, 2048.00390625 does not. This
+ * is the point rule. Coordinates count pixels: pixel (0, 0) is the square from (0,0) to (1,1).
+ *
+ *
+ * Refusals
+ * --------
+ * Every function answers with a number, 0 or a refusal's, and an index: that of the record at
+ * fault, counted from 0, and 0 where no record is at fault. Checks 1 to 7 run in this order. Then
+ * come the records, front to back, the first faulty one deciding; within a record the order is:
+ * header cut (8), 9, 10, body cut (8), 11, 12. Only then is anything drawn, so 13 comes last.
+ * rows stands for end - first.
+ *
+ *     no.  refused exactly when
+ *       1  width or height is above 2,048
+ *       2  first > end, or end > height
+ *       3  pitch is below width or above 65,536
+ *       4  rows > 0 and the mask is shorter than pitch*(rows - 1) + width
+ *       5  the workspace has fewer words than rows
+ *       6  a transform entry or an offset part is NaN or infinite
+ *       7  the list is longer than 65,536 bytes
+ *       8  a record is cut: 1 to 3 bytes are left, or its body passes the end of the list
+ *       9  a kind is not 1 to 5
+ *      10  a length is not the kind's
+ *      11  the first record is not MoveTo
+ *      12  a point fails the point rule
+ *      13  the drawing stores more distinct places (column, row) than the pool holds
+ *
+ *
+ * What is asked of the caller
+ * ---------------------------
+ * Sizes, floats, flags and the bytes of list, mask and words may be anything: what is wrong with
+ * them is told by a refusal. What C cannot tell the library, the caller must see to:
+ *
+ * - Each pointer is valid for the length that follows it: list for reads, mask and words for reads
+ *   and writes, words of 4 bytes each. A length in bytes is at most PTRDIFF_MAX.
+ * - words is aligned to 4 bytes.
+ * - No pointer is NULL, not even with length 0. Nothing is read or written through a pointer of
+ *   length 0, so the address of any variable will do (of a uint32_t, for words).
+ * - list, mask and words do not overlap, and no other thread writes to them, or reads mask or
+ *   words, during the call.
+ * - A bool holds 0 or 1, as every bool does that was assigned in C or C++.
+ *
+ *
+ * Threads
+ * -------
+ * The library has no state: it keeps nothing between calls, allocates nothing, reads and writes
+ * only what it is lent, and every call returns. Any number of threads may call it at once, each
+ * with a mask and words of its own; they may share a list.
+ */
+
+#ifndef MOSSZEPHYR_H
+#define MOSSZEPHYR_H
+
+#include <stdbool.h>
+#include <stddef.h>
+#include <stdint.h>
+
+#ifdef __cplusplus
+extern "C" {
+#endif
+
+/* The largest width and height, in pixels. */
+#define MZ_MOST_SIDE 2048
+/* The largest pitch, in bytes. */
+#define MZ_MOST_PITCH 65536
+/* The longest path list, in bytes. */
+#define MZ_MOST_LIST 65536
+/* The most places (column, row) that a pool holds; words beyond that are only wiped. */
+#define MZ_MOST_CELLS 16384
+
+/* How many words a workspace needs for a band of `rows` rows with a pool of `cells` places. */
+#define MZ_WORKSPACE_WORDS(rows, cells) ((size_t)(rows) + 4 * (size_t)(cells))
+
+/* The numbers that a call answers with; the table above says when. */
+enum {
+    MZ_ACCEPTED = 0,
+    MZ_SIZE = 1,
+    MZ_BAND = 2,
+    MZ_PITCH = 3,
+    MZ_MASK = 4,
+    MZ_WORKSPACE = 5,
+    MZ_FLOAT = 6,
+    MZ_LIST = 7,
+    MZ_CUT = 8,
+    MZ_KIND = 9,
+    MZ_LENGTH = 10,
+    MZ_START = 11,
+    MZ_POINT = 12,
+    MZ_ROOM = 13
+};
+
+/*
+ * Sends (x, y) to ((x*xx + y*yx) + tx, (x*xy + y*yy) + ty): the fields x and y are tx and ty.
+ * The identity is {1, 0, 0, 1, 0, 0}.
+ */
+typedef struct MzTransform {
+    float xx;
+    float xy;
+    float yx;
+    float yy;
+    float x;
+    float y;
+} MzTransform;
+
+/* What a drawing answers. */
+typedef struct MzDrawn {
+    uint32_t number;  /* 0, or the refusal's number */
+    uint32_t index;   /* the index of the record at fault, else 0 */
+    uint32_t records; /* how many records the list has; 0 with a refusal */
+    uint32_t cells;   /* how many distinct places the drawing stored; 0 with a refusal */
+} MzDrawn;
+
+/* A box of points; all four parts are 0 with a refusal. */
+typedef struct MzBounds {
+    uint32_t number;
+    uint32_t index;
+    float min_x;
+    float min_y;
+    float max_x;
+    float max_y;
+} MzBounds;
+
+/* How to draw a mask that just holds a list, and where it then belongs; all 0 with a refusal. */
+typedef struct MzPlacement {
+    uint32_t number;
+    uint32_t index;
+    float offset_x;  /* the new offset: it brings the placed box into the mask's first corner */
+    float offset_y;
+    int32_t left;    /* where the mask's left side belongs, in pixels */
+    int32_t top;     /* where its top belongs */
+    uint32_t width;  /* the mask's size, in pixels */
+    uint32_t height;
+} MzPlacement;
+
+/*
+ * Draws the rows first to end - 1 of a label of width x height pixels: a band. The whole label is
+ * the band [0, height).
+ *
+ * list, list_len    the path list
+ * transform         applied to every point
+ * offset_x, _y      added to every transformed point
+ * even_odd          the fill rule: even-odd if true, nonzero if false
+ * up                false: path row y stands at y - first from the mask's top, y pointing down;
+ *                   true: it stands there counted from the mask's bottom row, y pointing up
+ * width, height     of the whole label, in pixels, 0 allowed
+ * pitch             bytes from one mask row to the next
+ * first, end        the band; the mask's first byte belongs to the band, not to the label
+ * mask, mask_len    at least pitch*(end - first - 1) + width bytes, or any with no rows
+ * words, words_len  the workspace; it holds one word for each row of the band, and the rest, in
+ *                   fours, is the pool: (words_len - rows) / 4 places rounded down, at most 16,384.
+ *                   MZ_WORKSPACE_WORDS counts them. A drawing never stores more than
+ *                   (width + 1) * rows places; the smaller the workspace, the sooner it is wiped
+ *
+ * Refuses with 1 to 13. What was in mask and words before changes no answer and no painted byte.
+ *
+ * Afterwards   mask                                              words
+ *   0          in each band row width bytes are written, 0       all are 0
+ *              for no ink to 255 for full; no others change
+ *   1 to 12    unchanged                                         unchanged
+ *   13         unchanged                                         all are 0
+ *
+ * A label that is refused with 13 may still be drawn in bands: each has the whole pool to itself,
+ * and together they give the whole label's bytes.
+ */
+MzDrawn mz_draw(const uint8_t *list, size_t list_len, MzTransform transform, float offset_x,
+                float offset_y, bool even_odd, bool up, size_t width, size_t height, size_t pitch,
+                size_t first, size_t end, uint8_t *mask, size_t mask_len, uint32_t *words,
+                size_t words_len);
+
+/*
+ * The box of all transformed points, control points included. Of parts that are equal, as 0 and
+ * -0 are, the first stays. For an empty list all four parts are 0.
+ *
+ * Refuses with 6 to 12, the point rule judging the points without any offset.
+ */
+MzBounds mz_bounds(const uint8_t *list, size_t list_len, MzTransform transform);
+
+/*
+ * Where a list's label belongs, and how to draw it into a mask that just holds it.
+ *
+ * The offset is added to the box of mz_bounds, its minimum is rounded down to whole pixels and its
+ * maximum up. width and height are the differences; the new offset is the negated minimum; left is
+ * the minimum's x; top is its y, plus the height if bottom_left is true.
+ *
+ * Refuses with 6 to 12, the point rule judging the points with the offset added. For an empty list
+ * the box is (0,0) to (0,0), and 12 with index 0 says that the offset itself fails the point rule.
+ * A placement can be larger than a drawing may be, up to 4098 x 4098: mz_draw then says 1.
+ *
+ * To draw what was placed, call mz_draw with width and height from here and the offset (offset_x,
+ * offset_y); where the list was placed with an offset (x, y) of its own, with (x + offset_x,
+ * y + offset_y).
+ */
+MzPlacement mz_placement(const uint8_t *list, size_t list_len, MzTransform transform,
+                         float offset_x, float offset_y, bool bottom_left);
+
+#ifdef __cplusplus
+}
+#endif
+
+#endif

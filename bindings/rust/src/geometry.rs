@@ -1,0 +1,236 @@
+//! Points, transforms, and where a path lies.
+
+use crate::{face, Path, Refusal};
+
+/// A point, or an offset, in pixels.
+#[derive(Clone, Copy, Debug, Default, PartialEq)]
+pub struct Point {
+    /// To the right.
+    pub x: f32,
+    /// Down, or up for [`Origin::BottomLeft`].
+    pub y: f32,
+}
+
+impl Point {
+    /// (0, 0).
+    pub const ZERO: Point = Point::new(0.0, 0.0);
+
+    /// The point (x, y).
+    pub const fn new(x: f32, y: f32) -> Point {
+        Point { x, y }
+    }
+}
+
+impl From<(f32, f32)> for Point {
+    fn from((x, y): (f32, f32)) -> Point {
+        Point::new(x, y)
+    }
+}
+
+impl From<[f32; 2]> for Point {
+    fn from([x, y]: [f32; 2]) -> Point {
+        Point::new(x, y)
+    }
+}
+
+/// Sends (x, y) to ((x · xx + y · yx) + tx, (x · xy + y · yy) + ty), each product and sum rounded
+/// once, in that order; the fields `x` and `y` are tx and ty.
+///
+/// Transforms are built by chaining:
+///
+/// ```
+/// use mosszephyr::Transform;
+///
+/// let t = Transform::identity().then_scale(2.0, -2.0).then_translate(0.0, 240.0);
+/// assert_eq!(t, Transform::new(2.0, 0.0, 0.0, -2.0, 0.0, 240.0));
+/// ```
+#[repr(C)]
+#[derive(Clone, Copy, Debug, PartialEq)]
+pub struct Transform {
+    /// What x gives to x.
+    pub xx: f32,
+    /// What x gives to y.
+    pub xy: f32,
+    /// What y gives to x.
+    pub yx: f32,
+    /// What y gives to y.
+    pub yy: f32,
+    /// What is added to x.
+    pub x: f32,
+    /// What is added to y.
+    pub y: f32,
+}
+
+impl Transform {
+    /// Leaves every point where it is.
+    pub const fn identity() -> Transform {
+        Transform::new(1.0, 0.0, 0.0, 1.0, 0.0, 0.0)
+    }
+
+    /// The transform with these entries.
+    pub const fn new(xx: f32, xy: f32, yx: f32, yy: f32, x: f32, y: f32) -> Transform {
+        Transform {
+            xx,
+            xy,
+            yx,
+            yy,
+            x,
+            y,
+        }
+    }
+
+    /// This transform combined with a scale: xx, xy and x are multiplied by `x`, yx, yy and y by
+    /// `y`.
+    ///
+    /// That is this transform followed by the scale where xy and yx are 0. Where they are not, as
+    /// in a turned label, it is not: the rule is zeno's and is kept as it is.
+    pub fn then_scale(self, x: f32, y: f32) -> Transform {
+        self.combine(Transform::new(x, 0.0, 0.0, y, 0.0, 0.0))
+    }
+
+    /// This transform followed by a move: adds to x and y.
+    pub fn then_translate(self, x: f32, y: f32) -> Transform {
+        Transform {
+            x: self.x + x,
+            y: self.y + y,
+            ..self
+        }
+    }
+
+    /// The rule for two transforms, with every product and sum in its order: it shows in the sign
+    /// of zeros and with infinite entries.
+    fn combine(self, b: Transform) -> Transform {
+        let a = self;
+        Transform {
+            xx: a.xx * b.xx + a.yx * b.xy,
+            xy: a.xy * b.xx + a.yy * b.xy,
+            yx: a.xx * b.yx + a.yx * b.yy,
+            yy: a.xy * b.yx + a.yy * b.yy,
+            x: a.x * b.xx + a.y * b.xy + b.x,
+            y: a.x * b.yx + a.y * b.yy + b.y,
+        }
+    }
+}
+
+impl Default for Transform {
+    fn default() -> Transform {
+        Transform::identity()
+    }
+}
+
+/// Where (0, 0) is.
+#[derive(Clone, Copy, Debug, Default, PartialEq, Eq, Hash)]
+pub enum Origin {
+    /// At the top left: y points down.
+    #[default]
+    TopLeft,
+    /// At the bottom left: y points up.
+    BottomLeft,
+}
+
+/// A box of points.
+#[derive(Clone, Copy, Debug, Default, PartialEq)]
+pub struct Bounds {
+    /// The least x and the least y.
+    pub min: Point,
+    /// The greatest x and the greatest y.
+    pub max: Point,
+}
+
+/// How to draw a mask that just holds a path, and where it then belongs.
+#[derive(Clone, Copy, Debug, Default, PartialEq)]
+pub struct Placement {
+    /// The new offset: it brings the placed box into the mask's first corner.
+    pub offset: Point,
+    /// Where the mask's left side belongs, in pixels.
+    pub left: i32,
+    /// Where its top belongs.
+    pub top: i32,
+    /// The mask's width, in pixels.
+    pub width: u32,
+    /// The mask's height.
+    pub height: u32,
+}
+
+/// The box of all transformed points of a path, control points included; zeros for an empty path.
+/// Of parts that are equal, as 0 and −0 are, the first stays.
+///
+/// Refuses with 6 to 12, the point rule judging the points without any offset.
+///
+/// ```
+/// use mosszephyr::{bounds, Path, Point, Transform};
+///
+/// let mut path = Path::new();
+/// path.move_to((0.5, 0.25)).line_to((3.25, 2.0));
+/// let found = bounds(&path, Transform::identity())?;
+/// assert_eq!((found.min, found.max), (Point::new(0.5, 0.25), Point::new(3.25, 2.0)));
+/// # Ok::<(), mosszephyr::Refusal>(())
+/// ```
+pub fn bounds(path: &Path, transform: Transform) -> Result<Bounds, Refusal> {
+    face::bounds(path.as_bytes(), transform)
+}
+
+/// Where a path's label belongs, and how to draw it into a mask that just holds it.
+///
+/// The offset is added to the path's box, its minimum is rounded down to whole pixels and its
+/// maximum up. Width and height are the differences, the new offset is the negated minimum, left is
+/// the minimum's x, and top is its y, plus the height for [`Origin::BottomLeft`].
+///
+/// To draw what was placed, use the width, the height and the new offset; where the path was placed
+/// with an offset of its own, the sum of both.
+///
+/// Refuses with 6 to 12, the point rule judging the points with the offset added; for an empty path
+/// it judges the offset alone. A placement can be larger than a drawing may be.
+///
+/// ```
+/// use mosszephyr::{draw, placement, Label, Origin, Path, Point, Transform};
+///
+/// let mut path = Path::new();
+/// path.move_to((10.0, 20.0)).line_to((12.0, 20.0)).line_to((12.0, 21.0)).line_to((10.0, 21.0));
+/// let placed = placement(&path, Transform::identity(), Point::ZERO, Origin::TopLeft)?;
+/// assert_eq!((placed.left, placed.top), (10, 20));
+/// let label = Label {
+///     offset: placed.offset,
+///     ..Label::new(placed.width as usize, placed.height as usize)
+/// };
+/// assert_eq!(draw(&path, &label)?.mask, [255, 255]);
+/// # Ok::<(), mosszephyr::Refusal>(())
+/// ```
+pub fn placement(
+    path: &Path,
+    transform: Transform,
+    offset: Point,
+    origin: Origin,
+) -> Result<Placement, Refusal> {
+    face::placement(path.as_bytes(), transform, offset, origin)
+}
+
+#[cfg(test)]
+mod tests {
+    use super::*;
+
+    fn bits(t: Transform) -> [u32; 6] {
+        [t.xx, t.xy, t.yx, t.yy, t.x, t.y].map(f32::to_bits)
+    }
+
+    #[test]
+    fn scale_is_a_combination() {
+        let mirrored = Transform::identity().then_scale(-1.0, 1.0);
+        let expected = Transform::new(-1.0, 0.0, 0.0, 1.0, 0.0, 0.0);
+        assert_eq!(bits(mirrored), bits(expected), "0 * -1 + 1 * 0 is +0");
+        let endless = Transform::identity().then_scale(f32::INFINITY, 1.0);
+        assert!(endless.xx.is_infinite() && endless.xy.is_nan() && endless.x.is_nan());
+    }
+
+    #[test]
+    fn scale_multiplies_in_the_rules_order() {
+        let t = Transform::new(1.0, 2.0, 3.0, 4.0, 5.0, 6.0).then_scale(10.0, 100.0);
+        assert_eq!(t, Transform::new(10.0, 20.0, 300.0, 400.0, 50.0, 600.0));
+    }
+
+    #[test]
+    fn translate_adds() {
+        let t = Transform::new(1.0, 2.0, 3.0, 4.0, 5.0, 6.0).then_translate(0.5, -0.25);
+        assert_eq!(t, Transform::new(1.0, 2.0, 3.0, 4.0, 5.5, 5.75));
+    }
+}

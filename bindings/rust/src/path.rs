@@ -1,0 +1,155 @@
+//! The path list: records behind each other, written as bytes.
+
+use crate::Point;
+
+/// A path as the bytes of its list.
+///
+/// A record is a 2-byte length, a 2-byte kind, then coordinates, all little-endian. The length
+/// counts the bytes after itself. A coordinate is an IEEE 754 binary32 number, x before y.
+///
+/// | kind | command | length |
+/// |---|---|---|
+/// | 1 | MoveTo p | 10 |
+/// | 2 | LineTo p | 10 |
+/// | 3 | QuadTo c, p | 18 |
+/// | 4 | CurveTo c1, c2, p | 26 |
+/// | 5 | Close | 2 |
+///
+/// A path may hold any bytes; they are judged when it is drawn, bounded or placed. The first record
+/// must be a MoveTo, and the list may have 65,536 bytes. An empty path is valid. MoveTo and the end
+/// close an open subpath; drawing after Close goes on from the closed subpath's start.
+///
+/// ```
+/// use mosszephyr::Path;
+///
+/// let mut path = Path::new();
+/// path.move_to((1.0, 1.0)).close();
+/// let bytes = [0x0A, 0, 1, 0, 0, 0, 0x80, 0x3F, 0, 0, 0x80, 0x3F, 2, 0, 5, 0];
+/// assert_eq!(path.as_bytes(), bytes);
+/// assert_eq!(path, Path::from_bytes(bytes));
+/// ```
+#[derive(Clone, Debug, Default, PartialEq, Eq, Hash)]
+pub struct Path {
+    bytes: Vec<u8>,
+}
+
+/// The kinds of record.
+#[derive(Clone, Copy)]
+enum Kind {
+    MoveTo = 1,
+    LineTo = 2,
+    QuadTo = 3,
+    CurveTo = 4,
+    Close = 5,
+}
+
+impl Path {
+    /// An empty path.
+    pub const fn new() -> Path {
+        Path { bytes: Vec::new() }
+    }
+
+    /// A path of these bytes, whatever they are. A `Vec<u8>` is taken over uncopied.
+    pub fn from_bytes(bytes: impl Into<Vec<u8>>) -> Path {
+        Path {
+            bytes: bytes.into(),
+        }
+    }
+
+    /// The list's bytes.
+    pub fn as_bytes(&self) -> &[u8] {
+        &self.bytes
+    }
+
+    /// The list's bytes, handed over uncopied.
+    pub fn into_bytes(self) -> Vec<u8> {
+        self.bytes
+    }
+
+    /// Begins a subpath at a point.
+    pub fn move_to(&mut self, p: impl Into<Point>) -> &mut Path {
+        self.record(Kind::MoveTo, &[p.into()])
+    }
+
+    /// A line to a point.
+    pub fn line_to(&mut self, p: impl Into<Point>) -> &mut Path {
+        self.record(Kind::LineTo, &[p.into()])
+    }
+
+    /// A quadratic curve with a control point to a point.
+    pub fn quad_to(&mut self, control: impl Into<Point>, p: impl Into<Point>) -> &mut Path {
+        self.record(Kind::QuadTo, &[control.into(), p.into()])
+    }
+
+    /// A cubic curve with two control points to a point.
+    pub fn curve_to(
+        &mut self,
+        control1: impl Into<Point>,
+        control2: impl Into<Point>,
+        p: impl Into<Point>,
+    ) -> &mut Path {
+        self.record(Kind::CurveTo, &[control1.into(), control2.into(), p.into()])
+    }
+
+    /// Closes the subpath.
+    pub fn close(&mut self) -> &mut Path {
+        self.record(Kind::Close, &[])
+    }
+
+    fn record(&mut self, kind: Kind, points: &[Point]) -> &mut Path {
+        let length = 2 + 8 * points.len() as u16;
+        self.bytes.extend(length.to_le_bytes());
+        self.bytes.extend((kind as u16).to_le_bytes());
+        for point in points {
+            self.bytes.extend(point.x.to_le_bytes());
+            self.bytes.extend(point.y.to_le_bytes());
+        }
+        self
+    }
+}
+
+impl AsRef<[u8]> for Path {
+    fn as_ref(&self) -> &[u8] {
+        self.as_bytes()
+    }
+}
+
+#[cfg(test)]
+mod tests {
+    use super::*;
+
+    /// Each command's length and kind, from the table.
+    #[test]
+    fn headers_are_the_tables() {
+        let p = Point::new(1.0, 2.0);
+        let mut path = Path::new();
+        path.move_to(p)
+            .line_to(p)
+            .quad_to(p, p)
+            .curve_to(p, p, p)
+            .close();
+        let mut rest = path.as_bytes();
+        for (kind, length) in [(1, 10), (2, 10), (3, 18), (4, 26), (5, 2)] {
+            assert_eq!(rest[..4], [length, 0, kind, 0]);
+            rest = &rest[2 + usize::from(length)..];
+        }
+        assert!(rest.is_empty());
+    }
+
+    #[test]
+    fn points_stand_in_order_bit_for_bit() {
+        let parts = [0.5, -0.0, 1e-45, f32::MAX, f32::NEG_INFINITY, -3.25];
+        let [a, b, c, d, e, f] = parts;
+        let mut path = Path::new();
+        path.curve_to((a, b), [c, d], Point::new(e, f));
+        let expected: Vec<u8> = parts.iter().flat_map(|part| part.to_le_bytes()).collect();
+        assert_eq!(path.as_bytes()[4..], expected);
+    }
+
+    #[test]
+    fn bytes_come_back_as_they_went_in() {
+        let bytes: Vec<u8> = (0..=255).collect();
+        assert_eq!(Path::from_bytes(bytes.clone()).into_bytes(), bytes);
+        assert!(Path::from_bytes([]).as_bytes().is_empty());
+    }
+}

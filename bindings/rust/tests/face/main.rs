@@ -1,0 +1,50 @@
+//! The crate over the library, as its users call it: document 01's labels and refusals, bands, and
+//! what a call leaves in the memory that it is lent.
+
+mod bands;
+mod labels;
+mod lent;
+mod refusals;
+
+use mosszephyr::{draw, Label, Path, Picture};
+
+/// Lines through these points, closed.
+fn closed(points: &[(f32, f32)]) -> Path {
+    let mut path = Path::new();
+    path.move_to(points[0]);
+    for &point in &points[1..] {
+        path.line_to(point);
+    }
+    path.close();
+    path
+}
+
+/// A rectangle in the order of K1: right along the top first.
+fn rectangle(left: f32, top: f32, right: f32, bottom: f32) -> Path {
+    closed(&[(left, top), (right, top), (right, bottom), (left, bottom)])
+}
+
+/// K1's path.
+fn k1() -> Path {
+    rectangle(1.0, 1.0, 3.0, 2.0)
+}
+
+/// An accepted drawing.
+fn drawn(path: &Path, width: usize, height: usize) -> Picture {
+    draw(path, &Label::new(width, height)).expect("the label is accepted")
+}
+
+/// A round figure with a hole, of every command, that reaches past each side of 40 x 30.
+fn round_figure() -> Path {
+    let mut path = Path::new();
+    path.move_to((-3.0, 15.0))
+        .curve_to((-3.0, -7.5), (43.5, -7.5), (43.5, 15.0))
+        .quad_to((41.0, 33.0), (20.25, 33.0))
+        .line_to((-3.0, 24.5))
+        .close()
+        .move_to((20.0, 8.0))
+        .quad_to((28.5, 15.25), (20.0, 22.0))
+        .quad_to((11.5, 15.25), (20.0, 8.0))
+        .close();
+    path
+}

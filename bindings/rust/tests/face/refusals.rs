@@ -1,0 +1,311 @@
+//! Each refusal's number, record and words, by every function that gives it.
+
+use std::ops::Range;
+
+use crate::k1;
+use mosszephyr::{
+    bounds, draw, draw_band, placement, Label, Origin, Path, Point, Refusal, Transform,
+};
+
+/// A refusal as number and record.
+fn told(refusal: Refusal) -> (u32, u32) {
+    (refusal.number(), refusal.record())
+}
+
+/// K1's path in a band, with so many bytes and words; both must stay as they were.
+fn band_refusal(label: &Label, band: Range<usize>, bytes: usize, count: usize) -> Refusal {
+    let (mut mask, mut words) = (vec![7; bytes], vec![9; count]);
+    let refusal = draw_band(&k1(), label, band, &mut mask, &mut words).unwrap_err();
+    assert_eq!((refusal.record(), mask), (0, vec![7; bytes]));
+    assert_eq!(words, vec![9; count]);
+    refusal
+}
+
+/// What a list is refused for by drawing, bounds and placement alike.
+fn list_refusal(path: &Path) -> Refusal {
+    let identity = Transform::identity();
+    let refusal = draw(path, &Label::new(4, 3)).unwrap_err();
+    assert_eq!(bounds(path, identity), Err(refusal));
+    let placed = placement(path, identity, Point::ZERO, Origin::TopLeft);
+    assert_eq!(placed, Err(refusal));
+    refusal
+}
+
+/// K1's list with bytes behind it.
+fn k1_and(bytes: &[u8]) -> Path {
+    Path::from_bytes([k1().as_bytes(), bytes].concat())
+}
+
+#[test]
+fn size_is_1() {
+    for (width, height) in [(2049, 3), (4, 2049), (usize::MAX, usize::MAX)] {
+        let label = Label::new(width, height);
+        let refusal = band_refusal(&label, 0..3, 12, 19);
+        assert_eq!(refusal.number(), Refusal::SIZE);
+        let words = "the width or the height is above 2,048 pixels";
+        assert_eq!(refusal.words(), words);
+        assert_eq!(draw(&k1(), &label), Err(refusal));
+    }
+}
+
+#[test]
+fn band_is_2() {
+    let label = Label::new(4, 3);
+    for (start, end) in [(2, 1), (0, 4), (usize::MAX, 0), (0, usize::MAX)] {
+        let refusal = band_refusal(&label, Range { start, end }, 12, 19);
+        assert_eq!(refusal.number(), Refusal::BAND);
+        assert_eq!(refusal.words(), "the band does not lie within the label");
+    }
+}
+
+#[test]
+fn pitch_is_3() {
+    for pitch in [0, 3, 65_537, usize::MAX] {
+        let label = Label {
+            pitch,
+            ..Label::new(4, 3)
+        };
+        let refusal = band_refusal(&label, 0..3, 12, 19);
+        assert_eq!(refusal.number(), Refusal::PITCH);
+        let words = "the pitch is below the width or above 65,536 bytes";
+        assert_eq!(refusal.words(), words);
+        assert_eq!(draw(&k1(), &label), Err(refusal));
+    }
+}
+
+#[test]
+fn mask_is_4() {
+    for bytes in [0, 11] {
+        let refusal = band_refusal(&Label::new(4, 3), 0..3, bytes, 19);
+        assert_eq!(refusal.number(), Refusal::MASK);
+        assert_eq!(refusal.words(), "the mask is too short for the band");
+    }
+}
+
+#[test]
+fn workspace_is_5() {
+    for count in [0, 2] {
+        let refusal = band_refusal(&Label::new(4, 3), 0..3, 12, count);
+        assert_eq!(refusal.number(), Refusal::WORKSPACE);
+        let words = "the workspace has fewer words than the band has rows";
+        assert_eq!(refusal.words(), words);
+    }
+}
+
+#[test]
+fn float_is_6() {
+    for part in [f32::NAN, f32::INFINITY, f32::NEG_INFINITY] {
+        let label = Label {
+            offset: Point::new(0.0, part),
+            ..Label::new(4, 3)
+        };
+        let refusal = band_refusal(&label, 0..3, 12, 19);
+        assert_eq!(refusal.number(), Refusal::FLOAT);
+        let words = "a transform entry or an offset part is NaN or infinite";
+        assert_eq!(refusal.words(), words);
+        assert_eq!(draw(&k1(), &label), Err(refusal));
+        let placed = placement(&k1(), label.transform, label.offset, Origin::TopLeft);
+        assert_eq!(placed, Err(refusal));
+    }
+}
+
+#[test]
+fn every_transform_entry_is_judged() {
+    for at in 0..6 {
+        let mut entries = [1.0, 0.0, 0.0, 1.0, 0.0, 0.0];
+        entries[at] = f32::NAN;
+        let [xx, xy, yx, yy, x, y] = entries;
+        let transform = Transform::new(xx, xy, yx, yy, x, y);
+        let refusal = bounds(&k1(), transform).unwrap_err();
+        assert_eq!(refusal.number(), Refusal::FLOAT, "entry {at}");
+    }
+}
+
+#[test]
+fn list_is_7() {
+    let refusal = list_refusal(&Path::from_bytes(vec![0; 65_537]));
+    assert_eq!(told(refusal), (Refusal::LIST, 0));
+    let words = "the path list is longer than 65,536 bytes";
+    assert_eq!(refusal.words(), words);
+}
+
+#[test]
+fn cut_is_8() {
+    for stray in 1..=3 {
+        let refusal = list_refusal(&Path::from_bytes(vec![0; stray]));
+        assert_eq!(told(refusal), (Refusal::CUT, 0));
+        let refusal = list_refusal(&k1_and(&vec![0; stray]));
+        assert_eq!(told(refusal), (Refusal::CUT, 5));
+        assert_eq!(refusal.words(), "the end of the list cuts the record");
+    }
+    let body = list_refusal(&Path::from_bytes([10, 0, 2, 0]));
+    assert_eq!(told(body), (Refusal::CUT, 0), "a cut body beats 11");
+}
+
+#[test]
+fn kind_is_9() {
+    for kind in [[0, 0], [6, 0], [1, 1]] {
+        let refusal = list_refusal(&k1_and(&[10, 0, kind[0], kind[1]]));
+        assert_eq!(told(refusal), (Refusal::KIND, 5), "9 beats a cut body");
+        assert_eq!(refusal.words(), "the record's kind is not 1 to 5");
+    }
+}
+
+#[test]
+fn length_is_10() {
+    for length in [[0, 0], [10, 0], [2, 1]] {
+        let refusal = list_refusal(&k1_and(&[length[0], length[1], 5, 0]));
+        assert_eq!(told(refusal), (Refusal::LENGTH, 5));
+        assert_eq!(refusal.words(), "the record's length is not its kind's");
+    }
+}
+
+#[test]
+fn start_is_11() {
+    let (mut close, mut line) = (Path::new(), Path::new());
+    close.close();
+    line.line_to((f32::NAN, 0.0));
+    for path in [close, line] {
+        let refusal = list_refusal(&path);
+        assert_eq!(told(refusal), (Refusal::START, 0), "11 beats 12");
+        assert_eq!(refusal.words(), "the first record is not a MoveTo");
+    }
+}
+
+#[test]
+fn point_is_12() {
+    let just_too_far = 2048.0 + 1.0 / 256.0;
+    for far in [just_too_far, -just_too_far, 3e38, f32::INFINITY, f32::NAN] {
+        let mut path = k1();
+        path.curve_to((0.0, 0.0), (0.0, far), (0.0, 0.0));
+        let refusal = list_refusal(&path);
+        assert_eq!(told(refusal), (Refusal::POINT, 5));
+        let words = "a point is NaN, infinite or more than 2,048 pixels from zero";
+        assert_eq!(refusal.words(), words);
+    }
+    let mut path = Path::new();
+    path.move_to((2048.0, -2048.0));
+    assert!(bounds(&path, Transform::identity()).is_ok());
+}
+
+/// The offset of an empty path is judged by a placement only.
+#[test]
+fn offset_of_an_empty_path_is_12_in_a_placement() {
+    let offset = Point::new(2048.5, 0.0);
+    let placed = placement(
+        &Path::new(),
+        Transform::identity(),
+        offset,
+        Origin::BottomLeft,
+    );
+    assert_eq!(told(placed.unwrap_err()), (Refusal::POINT, 0));
+    let label = Label {
+        offset,
+        ..Label::new(1, 1)
+    };
+    assert!(draw(&Path::new(), &label).is_ok());
+}
+
+/// K1 stores two places, so a pool of one is too small.
+#[test]
+fn room_is_13() {
+    let label = Label::new(4, 3);
+    for count in 3..11 {
+        let (mut mask, mut words) = ([7; 12], vec![9; count]);
+        let refusal = draw_band(&k1(), &label, 0..3, &mut mask, &mut words).unwrap_err();
+        assert_eq!(told(refusal), (Refusal::ROOM, 0));
+        let said = "the drawing needs more places than the workspace has room for";
+        assert_eq!(refusal.words(), said);
+        assert_eq!((mask, words), ([7; 12], vec![0; count]));
+    }
+    let (mut mask, mut words) = ([7; 12], [9; 11]);
+    assert!(draw_band(&k1(), &label, 0..3, &mut mask, &mut words).is_ok());
+}
+
+/// More than 16,384 places: one in each pixel of 129 rows of 128.
+#[test]
+fn room_of_a_whole_label_is_limited() {
+    let mut path = Path::new();
+    path.move_to((0.0, 0.0));
+    for row in 0..129u8 {
+        let y = f32::from(row);
+        path.move_to((0.0, y))
+            .line_to((128.0, y + 1.0))
+            .line_to((0.0, y + 1.0));
+    }
+    let refusal = draw(&path, &Label::new(128, 129)).unwrap_err();
+    assert_eq!(refusal.number(), Refusal::ROOM);
+}
+
+/// A list cut anywhere: whole records are a list, anything else is 8 at the record that is cut.
+#[test]
+fn every_cut_is_told() {
+    let bytes = k1().into_bytes();
+    let ends = [0, 12, 24, 36, 48, 52];
+    for cut in 0..=bytes.len() {
+        let path = Path::from_bytes(&bytes[..cut]);
+        if ends.contains(&cut) {
+            assert!(draw(&path, &Label::new(4, 3)).is_ok());
+        } else {
+            assert_eq!(told(list_refusal(&path)), (Refusal::CUT, cut as u32 / 12));
+        }
+    }
+}
+
+/// Bytes of no meaning are answered too.
+#[test]
+fn any_bytes_are_answered() {
+    let mut state = 1u32;
+    let mut byte = || {
+        state = state.wrapping_mul(1_664_525).wrapping_add(1_013_904_223);
+        (state >> 24) as u8
+    };
+    for length in 0..300 {
+        let mut bytes: Vec<u8> = (0..length).map(|_| byte()).collect();
+        let noise = Path::from_bytes(bytes.clone());
+        let accepted = draw(&noise, &Label::new(4, 3)).is_ok();
+        assert_eq!(accepted, length == 0);
+        bytes.splice(..0, [10, 0, 1, 0]);
+        let moved = Path::from_bytes(bytes);
+        let drawn = draw(&moved, &Label::new(4, 3));
+        let bounded = bounds(&moved, Transform::identity());
+        assert_eq!(drawn.err(), bounded.err());
+    }
+}
+
+#[test]
+fn refusals_come_in_their_order() {
+    let endless = Label {
+        offset: Point::new(f32::NAN, 0.0),
+        ..Label::new(4, 3)
+    };
+    let number = |label: &Label, end, bytes, count| {
+        let (mut mask, mut words) = (vec![0; bytes], vec![0; count]);
+        let path = Path::from_bytes(vec![0; 65_537]);
+        let drawn = draw_band(&path, label, 0..end, &mut mask, &mut words);
+        drawn.unwrap_err().number()
+    };
+    let narrow = Label {
+        pitch: 3,
+        ..endless
+    };
+    let wide = Label {
+        width: 2049,
+        ..narrow
+    };
+    assert_eq!(number(&wide, 4, 0, 0), Refusal::SIZE);
+    assert_eq!(number(&narrow, 4, 0, 0), Refusal::BAND);
+    assert_eq!(number(&narrow, 3, 0, 0), Refusal::PITCH);
+    assert_eq!(number(&endless, 3, 0, 0), Refusal::MASK);
+    assert_eq!(number(&endless, 3, 12, 0), Refusal::WORKSPACE);
+    assert_eq!(number(&endless, 3, 12, 3), Refusal::FLOAT);
+    assert_eq!(number(&Label::new(4, 3), 3, 12, 3), Refusal::LIST);
+}
+
+/// A refusal is an error as others are, and says its number, record and words.
+#[test]
+fn refusal_is_an_error() {
+    let error: Box<dyn std::error::Error> = Box::new(list_refusal(&k1_and(&[2])));
+    let said = "refused with 8 at record 5: the end of the list cuts the record";
+    assert_eq!(error.to_string(), said);
+}

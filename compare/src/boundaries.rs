@@ -1,0 +1,96 @@
+//! Every boundary and every refusal of document 01 as a call, with the number and the index that its
+//! text gives, written down by hand. The tests hold the reading to this table, the program the port.
+
+mod lists;
+mod orders;
+mod sizes;
+
+use crate::drawing::Drawing;
+use crate::oracle::{Command, Point};
+
+/// A call, what it stands for, and the number and index that it must be answered with.
+#[derive(Clone)]
+pub struct Boundary {
+    pub what: String,
+    pub number: u8,
+    pub index: usize,
+    pub drawing: Drawing,
+}
+
+/// The whole table.
+pub fn table() -> Vec<Boundary> {
+    let mut table = sizes::table();
+    table.extend(lists::table());
+    table.extend(orders::table());
+    table
+}
+
+/// Rows of the table as they are gathered.
+#[derive(Default)]
+struct Rows(Vec<Boundary>);
+
+impl Rows {
+    fn add(&mut self, what: impl Into<String>, (number, index): (u8, usize), drawing: Drawing) {
+        self.0.push(Boundary {
+            what: what.into(),
+            number,
+            index,
+            drawing,
+        });
+    }
+
+    /// A refusal in which no record is at fault, or no refusal.
+    fn plain(&mut self, what: impl Into<String>, number: u8, drawing: Drawing) {
+        self.add(what, (number, 0), drawing);
+    }
+}
+
+/// K1's label: a rectangle on 4 by 3.
+pub fn k1() -> Drawing {
+    Drawing::plain(&rectangle(1.0, 1.0, 3.0, 2.0), 4, 3)
+}
+
+/// K1 with one thing changed.
+fn k1_but(change: impl FnOnce(&mut Drawing)) -> Drawing {
+    let mut drawing = k1();
+    change(&mut drawing);
+    drawing
+}
+
+/// A rectangle in the order of K1: right along the top first.
+pub fn rectangle(left: f32, top: f32, right: f32, bottom: f32) -> Vec<Command> {
+    closed(&[(left, top), (right, top), (right, bottom), (left, bottom)])
+}
+
+/// Lines through these points, closed.
+pub fn closed(points: &[(f32, f32)]) -> Vec<Command> {
+    let at = |&(x, y): &(f32, f32)| Point::new(x, y);
+    let mut path = vec![Command::MoveTo(at(&points[0]))];
+    path.extend(points[1..].iter().map(|p| Command::LineTo(at(p))));
+    path.push(Command::Close);
+    path
+}
+
+#[cfg(test)]
+mod tests {
+    use super::*;
+    use crate::driver;
+
+    #[test]
+    fn the_reading_answers_as_the_table() {
+        for row in table() {
+            let outcome = driver::outcome(&row.drawing);
+            let answer = (outcome.number, outcome.index);
+            assert_eq!(answer, (row.number, row.index), "{}", row.what);
+        }
+    }
+
+    #[test]
+    fn every_number_is_in_the_table() {
+        let table = table();
+        for number in 0..=13 {
+            let rows = table.iter().filter(|row| row.number == number).count();
+            assert!(rows >= 3, "{number}: {rows}");
+        }
+    }
+}

@@ -1,0 +1,195 @@
+//! 1 to 6 and 13: sizes, loans, floats and the pool.
+
+use super::{k1, k1_but, rectangle, Boundary, Rows};
+use crate::drawing::Drawing;
+use crate::oracle::{Command, Point};
+
+const FAR: usize = usize::MAX;
+
+pub fn table() -> Vec<Boundary> {
+    let mut rows = Rows::default();
+    sides(&mut rows);
+    bands(&mut rows);
+    pitches(&mut rows);
+    masks(&mut rows);
+    workspaces(&mut rows);
+    floats(&mut rows);
+    pools(&mut rows);
+    the_cap(&mut rows);
+    rows.0
+}
+
+fn sides(rows: &mut Rows) {
+    let path = rectangle(1.0, 1.0, 3.0, 2.0);
+    for (side, number) in [(0, 0), (1, 0), (2047, 0), (2048, 0), (2049, 1)] {
+        let wide = Drawing::plain(&path, side, 3);
+        rows.plain(format!("{side} wide"), number, wide);
+        let tall = Drawing::plain(&path, 4, side);
+        rows.plain(format!("{side} high"), number, tall);
+    }
+    for side in [4096, 65_536, 1 << 31, 1 << 32, FAR - 1, FAR] {
+        rows.plain(format!("{side} wide"), 1, k1_but(|d| d.width = side));
+        rows.plain(format!("{side} high"), 1, k1_but(|d| d.height = side));
+        let both = k1_but(|d| (d.width, d.height) = (side, side));
+        rows.plain(format!("{side} both ways"), 1, both);
+    }
+}
+
+fn bands(rows: &mut Rows) {
+    let cases = [
+        ((0, 3), 0),
+        ((0, 0), 0),
+        ((3, 3), 0),
+        ((1, 2), 0),
+        ((2, 1), 2),
+        ((0, 4), 2),
+        ((4, 4), 2),
+        ((4, 3), 2),
+        ((0, FAR), 2),
+        ((FAR, FAR), 2),
+        ((FAR, 0), 2),
+        ((FAR, 3), 2),
+        ((1, 0), 2),
+    ];
+    for ((first, end), number) in cases {
+        let drawing = k1_but(|d| (d.first, d.end) = (first, end));
+        rows.plain(format!("band [{first}, {end})"), number, drawing);
+    }
+}
+
+fn pitches(rows: &mut Rows) {
+    for pitch in [0, 1, 3, 65_537, 1 << 31, 1 << 32, FAR - 1, FAR] {
+        let drawing = k1_but(|d| d.pitch = pitch);
+        rows.plain(format!("pitch {pitch} for width 4"), 3, drawing);
+    }
+    for pitch in [4, 5, 65_535, 65_536] {
+        let mut drawing = k1();
+        drawing.pitch = pitch;
+        drawing.lend(0, 20);
+        rows.plain(format!("pitch {pitch} for width 4"), 0, drawing);
+    }
+    let none = Drawing::plain(&[], 0, 3);
+    rows.plain("pitch 0 for width 0", 0, none);
+    let no_rows = k1_but(|d| (d.end, d.pitch) = (0, 3));
+    rows.plain("pitch 3 for width 4 and no rows", 3, no_rows);
+}
+
+fn masks(rows: &mut Rows) {
+    for (width, height, pitch) in [(4, 3, 4), (4, 3, 9), (4, 1, 4), (1, 1, 65_536), (0, 3, 5)] {
+        let mut drawing = Drawing::plain(&rectangle(0.0, 0.0, 1.0, 1.0), width, height);
+        drawing.pitch = pitch;
+        drawing.lend(0, 20);
+        let what = format!("{width} by {height}, pitch {pitch}: a mask");
+        rows.plain(format!("{what} that fits"), 0, drawing.clone());
+        drawing.mask.push(9);
+        rows.plain(format!("{what} one longer"), 0, drawing.clone());
+        drawing.mask.truncate(drawing.mask.len() - 2);
+        rows.plain(format!("{what} one short"), 4, drawing.clone());
+        drawing.mask.clear();
+        rows.plain(format!("{what} of nothing"), 4, drawing);
+    }
+    let no_rows = k1_but(|d| {
+        (d.first, d.end, d.pitch) = (2, 2, 65_536);
+        d.mask.clear();
+    });
+    rows.plain("no rows and no mask", 0, no_rows);
+    let mut tall = Drawing::plain(&[], 2048, 2048);
+    tall.pitch = 65_536;
+    rows.plain("65,536 times 2,047 bytes lacking", 4, tall);
+    let no_width = k1_but(|d| {
+        (d.width, d.pitch) = (0, 0);
+        d.mask.clear();
+    });
+    rows.plain("no width, pitch 0 and no mask", 0, no_width);
+}
+
+fn workspaces(rows: &mut Rows) {
+    for (words, number) in [(0, 5), (2, 5), (3, 13), (10, 13), (11, 0), (12, 0)] {
+        let drawing = k1_but(|d| d.words.truncate(words));
+        rows.plain(format!("K1 with {words} words"), number, drawing);
+    }
+    let mut empty = Drawing::plain(&[], 4, 3);
+    empty.words.truncate(3);
+    rows.plain("no list, a word for each row", 0, empty.clone());
+    empty.words.truncate(2);
+    rows.plain("no list, a word short", 5, empty);
+    let no_rows = k1_but(|d| {
+        d.end = 0;
+        d.words.clear();
+    });
+    rows.plain("no rows and no words", 0, no_rows);
+}
+
+fn floats(rows: &mut Rows) {
+    for number in [f32::NAN, f32::INFINITY, f32::NEG_INFINITY, f32::MAX] {
+        let refusal = if number.is_finite() { 0 } else { 6 };
+        for part in 0..8 {
+            let mut drawing = Drawing::plain(&[], 2, 2);
+            set_part(&mut drawing, part, number);
+            rows.plain(format!("part {part} is {number}"), refusal, drawing);
+        }
+    }
+}
+
+/// Entries of the transform first, then the parts of the offset.
+fn set_part(drawing: &mut Drawing, part: usize, number: f32) {
+    let (t, offset) = (&mut drawing.transform, &mut drawing.offset);
+    match part {
+        0 => t.xx = number,
+        1 => t.xy = number,
+        2 => t.yx = number,
+        3 => t.yy = number,
+        4 => t.x = number,
+        5 => t.y = number,
+        6 => offset.x = number,
+        _ => offset.y = number,
+    }
+}
+
+fn pools(rows: &mut Rows) {
+    let lone = |x: f32, y: f32| [Command::MoveTo(Point::new(x, y))];
+    for (words, number) in [(1, 13), (2, 13), (3, 13), (4, 13), (5, 0), (6, 0)] {
+        let mut k8 = Drawing::plain(&lone(0.0, 0.0), 1, 1);
+        k8.words.truncate(words);
+        rows.plain(format!("K8 with {words} words"), number, k8);
+    }
+    for (x, y, number) in [
+        (1.0, 0.0, 0),
+        (0.0, 1.0, 0),
+        (0.0, -1.0, 0),
+        (-1.0, 0.0, 13),
+    ] {
+        let mut outside = Drawing::plain(&lone(x, y), 1, 1);
+        outside.words.truncate(1);
+        rows.plain(format!("no pool, MoveTo ({x}, {y})"), number, outside);
+    }
+    for (x, number) in [(-1.0, 13), (0.0, 0)] {
+        let mut narrow = Drawing::plain(&lone(x, 0.0), 0, 1);
+        narrow.words.truncate(1);
+        rows.plain(
+            format!("no pool, no width, MoveTo ({x}, 0)"),
+            number,
+            narrow,
+        );
+    }
+}
+
+/// "At most 16,384": four bars of 2,048 rows take two places a row each, a last MoveTo one more.
+fn the_cap(rows: &mut Rows) {
+    let bar = |n: usize| rectangle(8.0 * n as f32, 0.0, 8.0 * n as f32 + 4.0, 2048.0);
+    let path: Vec<Command> = (0..4).flat_map(bar).collect();
+    let mut drawing = Drawing::plain(&path, 32, 2048);
+    for (words, number) in [(67_583, 13), (67_584, 0), (67_588, 0), (100_000, 0)] {
+        drawing.words.resize(words, 5);
+        let what = format!("16,384 places and {words} words");
+        rows.plain(what, number, drawing.clone());
+    }
+    let mut one_more = path;
+    one_more.push(Command::MoveTo(Point::new(31.0, 7.0)));
+    drawing.list = crate::list::written(&one_more);
+    for words in [67_584, 67_588, 100_000] {
+        drawing.words.resize(words, 5);
+        let what = format!("16,385 places and {words} words");
+        rows.plain(what, 13, drawing.clone());
+    }
+}

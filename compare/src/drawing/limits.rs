@@ -1,0 +1,186 @@
+//! Calls with sizes at their limits, and with a pool that just holds what is drawn.
+
+use super::{longest, odd_offset, ordinary, soil, spoil_floats, Drawing};
+use crate::driver;
+use crate::numbers::Dice;
+use crate::oracle::{Command, Fill, Point};
+use crate::paths::{damaged, Character};
+
+const FAR: usize = usize::MAX;
+
+/// Every size near its limit or beyond it, a mask and a workspace that just fit or lack one entry.
+pub fn at_the_limits(dice: &mut Dice) -> Drawing {
+    let (width, height) = sides(dice);
+    let character = dice.pick(&Character::ALL);
+    let path = character.path(width.min(2048), height.min(2048), dice);
+    let mut drawing = Drawing::plain(&path, 0, 0);
+    (drawing.width, drawing.height) = (width, height);
+    drawing.fill = dice.pick(&[Fill::NonZero, Fill::EvenOdd]);
+    drawing.up = dice.one_in(2);
+    drawing.pitch = pitch(width, dice);
+    (drawing.first, drawing.end) = few_rows(height, dice);
+    if dice.one_in(3) {
+        drawing.offset = odd_offset(dice);
+    }
+    match dice.below(16) {
+        0 => drawing.list = longest(dice),
+        1 => drawing.list = damaged(&drawing.list, dice),
+        2 => spoil_floats(&mut drawing, dice),
+        _ => {}
+    }
+    lend_just_enough(&mut drawing, dice);
+    soil(&mut drawing, dice);
+    drawing
+}
+
+/// One side at its limit, seldom both: a whole label of both is large.
+fn sides(dice: &mut Dice) -> (usize, usize) {
+    let far = dice.pick(&[2047, 2048, 2048, 2048, 2049, FAR]);
+    match dice.below(64) {
+        0 => (far, dice.pick(&[2048, 2049, FAR])),
+        1..=31 => (far, dice.below(6)),
+        _ => (dice.below(6), far),
+    }
+}
+
+fn pitch(width: usize, dice: &mut Dice) -> usize {
+    match dice.below(8) {
+        0 => width.wrapping_sub(1),
+        1..=3 => width,
+        4 => width.wrapping_add(1),
+        _ => dice.pick(&[65_535, 65_536, 65_536, 65_537, FAR]),
+    }
+}
+
+/// A band of at most three rows, most often at the label's end.
+fn few_rows(height: usize, dice: &mut Dice) -> (usize, usize) {
+    let end = match dice.below(8) {
+        0 => height.wrapping_add(1),
+        1 => dice.below(4),
+        2 => height.saturating_sub(1),
+        _ => height,
+    };
+    let first = match dice.below(12) {
+        0 => end.wrapping_add(1),
+        1 => FAR,
+        _ => end.saturating_sub(dice.below(4)),
+    };
+    (first, end)
+}
+
+/// A mask and a workspace with what the sizes need, or an entry less or more.
+fn lend_just_enough(drawing: &mut Drawing, dice: &mut Dice) {
+    let rows = drawing.end.saturating_sub(drawing.first).min(4);
+    let fits = drawing.pitch <= 65_537 && drawing.width <= 2049;
+    let bytes = match rows.checked_sub(1) {
+        Some(before_last) if fits => drawing.pitch * before_last + drawing.width,
+        _ => 0,
+    };
+    drawing.mask = super::old::bytes(beside(bytes, dice));
+    let places = dice.pick(&[0, 0, 1, 2, 4 * 2049, 4 * 2049]);
+    let spare = dice.pick(&[0, 0, 1, 3]);
+    drawing.words = super::old::words(beside(rows + 4 * places, dice) + spare);
+}
+
+fn beside(length: usize, dice: &mut Dice) -> usize {
+    match dice.below(8) {
+        0 => length.saturating_sub(1),
+        1 => length + 1,
+        _ => length,
+    }
+}
+
+/// A call whose pool holds just what is drawn, one place less or more, or misses it by words.
+pub fn with_just_room(dice: &mut Dice) -> Drawing {
+    let mut drawing = ordinary(dice);
+    drawing.lend(0, drawing.every_place());
+    let cells = driver::outcome(&drawing).cells;
+    let words = drawing.rows() + 4 * cells;
+    let short = dice.pick(&[0, 0, 1, 4]).min(words);
+    let more = dice.pick(&[0, 0, 3]);
+    drawing.words = super::old::words(words - short + more);
+    soil(&mut drawing, dice);
+    drawing
+}
+
+/// A call with about 16,384 places and a workspace for more: tall bars, each two places a row, and at
+/// times a last MoveTo that takes one place more.
+pub fn at_the_cap(dice: &mut Dice) -> Drawing {
+    const TALL: usize = 2048;
+    let mut path = Vec::new();
+    for bar in 0..4 {
+        let left = 8.0 * bar as f32 + dice.pick(&[0.0, 0.5, 2.25]);
+        let lower = if bar == 3 {
+            dice.pick(&[0, 0, 0, 1])
+        } else {
+            0
+        };
+        path.extend(bar_of(left, left + 4.0, (TALL - lower) as f32));
+    }
+    if dice.one_in(2) {
+        let row = dice.below(TALL) as f32;
+        path.push(Command::MoveTo(Point::new(31.0, row)));
+    }
+    let mut drawing = Drawing::plain(&path, 32, TALL);
+    if dice.one_in(8) {
+        drawing.first = 1;
+    }
+    let words = drawing.rows() + 4 * 16_384 + dice.pick(&[0, 0, 4, 40]);
+    drawing.words = super::old::words(words - dice.pick(&[0, 0, 0, 1]));
+    soil(&mut drawing, dice);
+    drawing
+}
+
+/// A rectangle from row 0 down.
+fn bar_of(left: f32, right: f32, bottom: f32) -> [Command; 5] {
+    [
+        Command::MoveTo(Point::new(left, 0.0)),
+        Command::LineTo(Point::new(right, 0.0)),
+        Command::LineTo(Point::new(right, bottom)),
+        Command::LineTo(Point::new(left, bottom)),
+        Command::Close,
+    ]
+}
+
+#[cfg(test)]
+mod tests {
+    use super::*;
+    use std::collections::HashMap;
+
+    fn numbers_of(make: fn(&mut Dice) -> Drawing, count: usize) -> HashMap<u8, usize> {
+        let mut dice = Dice::new(14);
+        let mut seen = HashMap::new();
+        for _ in 0..count {
+            let outcome = driver::outcome(&make(&mut dice));
+            *seen.entry(outcome.number).or_default() += 1;
+        }
+        seen
+    }
+
+    #[test]
+    fn limits_bring_every_refusal_of_a_size_about() {
+        let seen = numbers_of(at_the_limits, 4000);
+        for number in (0..=8).chain([13]) {
+            assert!(seen.get(&number) > Some(&10), "{number}: {seen:?}");
+        }
+    }
+
+    #[test]
+    fn room_is_just_enough_or_just_not() {
+        for (make, count) in [
+            (with_just_room as fn(&mut Dice) -> _, 2000),
+            (at_the_cap, 40),
+        ] {
+            let seen = numbers_of(make, count);
+            assert!(seen[&0] > count / 8 && seen[&13] > count / 8, "{seen:?}");
+        }
+    }
+
+    /// The cap is met exactly: 16,384 places are drawn.
+    #[test]
+    fn the_cap_is_met() {
+        let mut dice = Dice::new(15);
+        let cells = |dice: &mut Dice| driver::outcome(&at_the_cap(dice)).cells;
+        assert!((0..40).any(|_| cells(&mut dice) == 16_384));
+    }
+}

@@ -1,0 +1,191 @@
+//! Damaged and random calls thrown at the port, with marks around all that is lent or, every other
+//! time, blocks of the heap that fit exactly. Zeno is not asked, so that this runs under a memory
+//! checker too:
+//!
+//!     valgrind --error-exitcode=1 target/compare/release/compare fuzz --seconds 300
+
+use std::time::{Duration, Instant};
+
+use crate::face;
+use crate::kinds::calls::{agree_on_answers, answer_of, drawn, keeps, Called};
+use crate::kinds::SEEKING;
+use crate::runs::Stopped;
+use compare::drawing::{soil, wild, Drawing};
+use compare::flags::Flags;
+use compare::lent::{Around, Lent, BYTE_MARK};
+use compare::numbers::Dice;
+use compare::oracle::Origin;
+use compare::placing::{any_placing, Placing};
+use compare::reading::{self, Refusal};
+use compare::shrink::smallest;
+
+pub const USAGE: &str = "compare fuzz --seconds N [--seed S]";
+
+/// Rounds between two looks at the clock.
+const ROUNDS: usize = 16;
+
+/// How often each number was answered.
+#[derive(Default)]
+struct Counts {
+    draw: [u64; 14],
+    bounds: [u64; 14],
+    placement: [u64; 14],
+}
+
+pub fn fuzz(words: &[String]) -> Result<(), Stopped> {
+    let flags = Flags::read(words, &["--seconds", "--seed"]).map_err(Stopped::Asked)?;
+    let seconds = flags.number("--seconds", 10).map_err(Stopped::Asked)?;
+    let seed = flags.number("--seed", 1).map_err(Stopped::Asked)?;
+    let mut dice = Dice::named(seed, "fuzz");
+    let mut counts = Counts::default();
+    let start = Instant::now();
+    while start.elapsed() < Duration::from_secs(seconds) {
+        for _ in 0..ROUNDS {
+            one_round(&mut dice, &mut counts).map_err(Stopped::Different)?;
+        }
+    }
+    println!("drawings, each drawn twice: {}", told(&counts.draw));
+    println!("bounds: {}", told(&counts.bounds));
+    println!("placements: {}", told(&counts.placement));
+    println!("nothing was touched that may not be, seed {seed}, {seconds} s");
+    Ok(())
+}
+
+fn told(counts: &[u64; 14]) -> String {
+    let total: u64 = counts.iter().sum();
+    let numbers = counts.iter().enumerate().filter(|(_, count)| **count > 0);
+    let each: Vec<String> = numbers
+        .map(|(number, count)| format!("{number}: {count}"))
+        .collect();
+    format!("{total}, by number {}", each.join(", "))
+}
+
+fn one_round(dice: &mut Dice, counts: &mut Counts) -> Result<(), String> {
+    let around = dice.pick(&[Around::Marks, Around::Nothing]);
+    let drawing = wild(dice);
+    let seed = dice.roll();
+    match draw_twice(&drawing, around, seed) {
+        Ok(number) => counts.draw[number] += 1,
+        Err(_) => return Err(smaller(drawing, around, seed)),
+    }
+    for placing in [placing_of(&drawing, dice), any_placing(dice)] {
+        let with_case = |what: String| format!("DIFFERENT: fuzz\n{}{what}", placing.shown());
+        counts.bounds[bounds(&placing, around).map_err(with_case)?] += 1;
+        counts.placement[placement(&placing, around).map_err(with_case)?] += 1;
+    }
+    Ok(())
+}
+
+/// What is wrong with a drawing, in the smallest form that is found.
+fn smaller(drawing: Drawing, around: Around, seed: u64) -> String {
+    let start = Instant::now();
+    let wrong = |d: &Drawing| start.elapsed() < SEEKING && draw_twice(d, around, seed).is_err();
+    let least = smallest(drawing, Drawing::simpler, wrong);
+    let what = draw_twice(&least, around, seed).expect_err("the smallest form is wrong");
+    format!("DIFFERENT: fuzz, smallest form:\n{}{what}", least.shown())
+}
+
+fn placing_of(drawing: &Drawing, dice: &mut Dice) -> Placing {
+    Placing {
+        list: drawing.list.clone(),
+        transform: drawing.transform,
+        offset: drawing.offset,
+        origin: dice.pick(&[Origin::TopLeft, Origin::BottomLeft]),
+    }
+}
+
+/// Draws, and draws again over other old bytes and words: the answer and the painted bytes stay.
+fn draw_twice(drawing: &Drawing, around: Around, seed: u64) -> Result<usize, String> {
+    let once = draw(drawing, around)?;
+    let mut other = drawing.clone();
+    soil(&mut other, &mut Dice::new(seed));
+    let again = draw(&other, around)?;
+    agree_on_answers(&again.answer, &once.answer)?;
+    let painted = painted(drawing, once.answer.number == 0);
+    let (once_mask, again_mask) = (once.mask.part(), again.mask.part());
+    for (at, is_painted) in painted.into_iter().enumerate() {
+        if is_painted && once_mask[at] != again_mask[at] {
+            return Err(format!("mask byte {at} shows what was there before"));
+        }
+    }
+    Ok(once.answer.number as usize)
+}
+
+/// Draws and judges what is left: numbers up to 12 by the reading, everything else by the rules for
+/// what a call leaves.
+fn draw(drawing: &Drawing, around: Around) -> Result<Called, String> {
+    let called = drawn(drawing, around)?;
+    let answer = called.answer;
+    match reading::judge(drawing) {
+        Err(Refusal { number, index }) => {
+            agree_on_answers(&answer, &answer_of(number, index, 0, 0))?;
+        }
+        Ok(_) if answer.number == 13 => agree_on_answers(&answer, &answer_of(13, 0, 0, 0))?,
+        Ok(path) => {
+            let cells = answer.cells as usize;
+            agree_on_answers(&answer, &answer_of(0, 0, path.len(), cells))?;
+            reading::judge_room(cells, drawing.words.len(), drawing.rows())
+                .map_err(|_| format!("{cells} cells are more than the pool holds"))?;
+        }
+    }
+    judge_loans(drawing, &called)?;
+    Ok(called)
+}
+
+fn judge_loans(drawing: &Drawing, called: &Called) -> Result<(), String> {
+    let number = called.answer.number;
+    let words = called.words.part();
+    let kept = match number {
+        0 | 13 => words.iter().all(|&word| word == 0),
+        _ => words == drawing.words,
+    };
+    if !kept {
+        return Err(format!("number {number} leaves other words"));
+    }
+    let painted = painted(drawing, number == 0);
+    let bytes = called.mask.part().iter().zip(&drawing.mask);
+    for (at, ((after, before), is_painted)) in bytes.zip(painted).enumerate() {
+        if !is_painted && after != before {
+            return Err(format!("number {number} changes mask byte {at}"));
+        }
+    }
+    Ok(())
+}
+
+/// Which bytes of the mask a call paints.
+fn painted(drawing: &Drawing, accepted: bool) -> Vec<bool> {
+    let mut painted = vec![false; drawing.mask.len()];
+    if accepted {
+        for row in 0..drawing.rows() {
+            let at = row * drawing.pitch;
+            painted[at..at + drawing.width].fill(true);
+        }
+    }
+    painted
+}
+
+fn bounds(placing: &Placing, around: Around) -> Result<usize, String> {
+    let list = Lent::new(&placing.list, BYTE_MARK, around);
+    let answer = face::bounds(placing, list.part());
+    keeps(&list, "the list")?;
+    let judged = reading::judge_bounds(&placing.list, &placing.transform);
+    same_number((answer.number, answer.index), judged.err())
+}
+
+fn placement(placing: &Placing, around: Around) -> Result<usize, String> {
+    let list = Lent::new(&placing.list, BYTE_MARK, around);
+    let answer = face::placement(placing, list.part());
+    keeps(&list, "the list")?;
+    let judged = reading::judge_placement(&placing.list, &placing.transform, placing.offset);
+    same_number((answer.number, answer.index), judged.err())
+}
+
+fn same_number(ours: (u32, u32), refusal: Option<Refusal>) -> Result<usize, String> {
+    let theirs = refusal.map_or((0, 0), |r| (u32::from(r.number), r.index as u32));
+    if ours != theirs {
+        return Err(format!(
+            "number, index: the port {ours:?}, the rule {theirs:?}"
+        ));
+    }
+    Ok(ours.0 as usize)
+}

@@ -1,0 +1,114 @@
+//! One drawing by the port with marks around everything it is lent, and the comparison of all that it
+//! answers and leaves.
+
+use crate::face::{self, Drawn};
+use compare::drawing::Drawing;
+use compare::driver::Outcome;
+use compare::lent::{Around, Lent, BYTE_MARK, WORD_MARK};
+
+/// Headings of a drawing's number.
+pub const NUMBERS: [&str; 14] = [
+    "accepted",
+    "refused 1",
+    "refused 2",
+    "refused 3",
+    "refused 4",
+    "refused 5",
+    "refused 6",
+    "refused 7",
+    "refused 8",
+    "refused 9",
+    "refused 10",
+    "refused 11",
+    "refused 12",
+    "refused 13",
+];
+
+/// What the port answered and left.
+pub struct Called {
+    pub answer: Drawn,
+    pub mask: Lent<u8>,
+    pub words: Lent<u32>,
+}
+
+/// Draws; an error where the port touched what it may not.
+pub fn drawn(drawing: &Drawing, around: Around) -> Result<Called, String> {
+    let list = Lent::new(&drawing.list, BYTE_MARK, around);
+    let mut mask = Lent::new(&drawing.mask, BYTE_MARK, around);
+    let mut words = Lent::new(&drawing.words, WORD_MARK, around);
+    let answer = face::draw(drawing, list.part(), mask.part_mut(), words.part_mut());
+    keeps(&list, "the list")?;
+    keeps(&mask, "the mask")?;
+    keeps(&words, "the workspace")?;
+    if list.part() != drawing.list {
+        return Err("the port wrote into the list".to_string());
+    }
+    Ok(Called {
+        answer,
+        mask,
+        words,
+    })
+}
+
+pub fn keeps<T: Copy + PartialEq>(lent: &Lent<T>, what: &str) -> Result<(), String> {
+    if lent.is_kept() {
+        return Ok(());
+    }
+    Err(format!("the port wrote outside {what}"))
+}
+
+/// Compares everything with what it must be.
+pub fn agree_on(drawing: &Drawing, called: &Called, expected: &Outcome) -> Result<(), String> {
+    let answer = answer_of(
+        expected.number,
+        expected.index,
+        expected.records,
+        expected.cells,
+    );
+    agree_on_answers(&called.answer, &answer)?;
+    agree_on_masks(drawing.pitch, called.mask.part(), &expected.mask)?;
+    agree_on_words(called.words.part(), &expected.words)
+}
+
+pub fn answer_of(number: u8, index: usize, records: usize, cells: usize) -> Drawn {
+    Drawn {
+        number: u32::from(number),
+        index: index as u32,
+        records: records as u32,
+        cells: cells as u32,
+    }
+}
+
+pub fn agree_on_answers(ours: &Drawn, theirs: &Drawn) -> Result<(), String> {
+    if ours == theirs {
+        return Ok(());
+    }
+    Err(format!("the port {ours:?}\n it must be {theirs:?}"))
+}
+
+pub fn agree_on_masks(pitch: usize, ours: &[u8], theirs: &[u8]) -> Result<(), String> {
+    let Some(at) = first_difference(ours, theirs) else {
+        return Ok(());
+    };
+    let pitch = pitch.max(1);
+    let (row, column) = (at / pitch, at % pitch);
+    let (ours, theirs) = (ours[at], theirs[at]);
+    Err(format!(
+        "mask byte {at} (row {row}, column {column}): the port {ours}, it must be {theirs}"
+    ))
+}
+
+pub fn agree_on_words(ours: &[u32], theirs: &[u32]) -> Result<(), String> {
+    let Some(at) = first_difference(ours, theirs) else {
+        return Ok(());
+    };
+    let (ours, theirs) = (ours[at], theirs[at]);
+    Err(format!("word {at}: the port {ours}, it must be {theirs}"))
+}
+
+fn first_difference<T: PartialEq>(ours: &[T], theirs: &[T]) -> Option<usize> {
+    if ours == theirs {
+        return None;
+    }
+    ours.iter().zip(theirs).position(|(a, b)| a != b)
+}

@@ -1,0 +1,138 @@
+//! The cells of a drawing as the port stores them, before they are swept: every row, column, cover and
+//! area in order, as `HeapStorage` holds them.
+
+use super::calls::{agree_on_answers, agree_on_words, answer_of, keeps, NUMBERS};
+use super::drawings::SmallDrawings;
+use super::{Agreed, Kind, Verdict};
+use crate::face;
+use compare::drawing::{ordinary_of, soil, Drawing};
+use compare::driver;
+use compare::lent::{Around, Lent, BYTE_MARK, WORD_MARK};
+use compare::numbers::Dice;
+use compare::oracle::CellAt;
+use compare::paths::Character;
+use compare::pool;
+use compare::shrink::Candidates;
+
+/// Cells of paths of one character on labels of every size.
+pub struct Cells(pub Character);
+
+impl Kind for Cells {
+    type Case = Drawing;
+
+    const PARTS: Option<&'static str> = Some("cells");
+
+    fn name(&self) -> String {
+        format!("cells: {}", self.0.name())
+    }
+
+    /// Two in three as they come, the others on a plain label, where every path is accepted.
+    fn draw(&self, _: u64, dice: &mut Dice) -> Drawing {
+        let mut drawing = ordinary_of(self.0, dice);
+        if dice.one_in(3) {
+            let path = self.0.path(drawing.width, drawing.height, dice);
+            drawing = Drawing::plain(&path, drawing.width, drawing.height);
+        }
+        drawing.pitch = drawing.width;
+        if !dice.one_in(16) {
+            drawing.lend(0, drawing.every_place());
+            soil(&mut drawing, dice);
+        }
+        drawing
+    }
+
+    fn judge(&self, case: &Drawing) -> Verdict {
+        judged(case)
+    }
+
+    fn simpler<'a>(&self, case: &'a Drawing) -> Candidates<'a, Drawing> {
+        simpler(case)
+    }
+
+    fn show(&self, case: &Drawing) -> String {
+        case.shown()
+    }
+}
+
+/// Cells of every small path on a label of one size.
+pub struct SmallCells(pub usize, pub usize);
+
+impl Kind for SmallCells {
+    type Case = Drawing;
+
+    const PARTS: Option<&'static str> = Some("cells");
+
+    fn name(&self) -> String {
+        format!("cells: all small paths on {} by {}", self.0, self.1)
+    }
+
+    fn draw(&self, number: u64, dice: &mut Dice) -> Drawing {
+        let mut drawing = SmallDrawings::plain(number, self.0, self.1);
+        soil(&mut drawing, dice);
+        drawing
+    }
+
+    fn judge(&self, case: &Drawing) -> Verdict {
+        judged(case)
+    }
+
+    fn simpler<'a>(&self, case: &'a Drawing) -> Candidates<'a, Drawing> {
+        simpler(case)
+    }
+
+    fn show(&self, case: &Drawing) -> String {
+        case.shown()
+    }
+}
+
+/// Simpler calls; cells have no mask, and the pitch is the width.
+fn simpler(case: &Drawing) -> Candidates<'_, Drawing> {
+    let candidates = case.simpler();
+    let same = |d: &Drawing| d.mask == case.mask && d.pitch == case.pitch;
+    Box::new(candidates.filter(same).map(|mut candidate| {
+        candidate.pitch = candidate.width;
+        candidate
+    }))
+}
+
+fn judged(case: &Drawing) -> Verdict {
+    let list = Lent::new(&case.list, BYTE_MARK, Around::Marks);
+    let mut words = Lent::new(&case.words, WORD_MARK, Around::Marks);
+    let answer = face::test_cells(case, list.part(), words.part_mut());
+    keeps(&list, "the list")?;
+    keeps(&words, "the workspace")?;
+    match driver::drawn(case) {
+        Err(refusal) => {
+            let theirs = answer_of(refusal.number, refusal.index, 0, 0);
+            agree_on_answers(&answer, &theirs)?;
+            if refusal.number != NO_ROOM {
+                agree_on_words(words.part(), &case.words)?;
+            }
+            Ok(NUMBERS[usize::from(refusal.number)].into())
+        }
+        Ok(drawn) => {
+            let theirs = answer_of(0, 0, drawn.records, drawn.cells.len());
+            agree_on_answers(&answer, &theirs)?;
+            let cells = pool::walked(words.part(), case.rows(), drawn.cells.len())?;
+            agree_on_cells(&cells, &drawn.cells)?;
+            Ok(Agreed {
+                heading: NUMBERS[0],
+                parts: cells.len(),
+            })
+        }
+    }
+}
+
+/// After this refusal the test function leaves the cells that found room: nothing is asked of them.
+const NO_ROOM: u8 = 13;
+
+fn agree_on_cells(ours: &[CellAt], theirs: &[CellAt]) -> Result<(), String> {
+    let differ = ours.iter().zip(theirs).position(|(a, b)| a != b);
+    match differ {
+        None => Ok(()),
+        Some(at) => Err(format!(
+            "cell {at}: the port {:?}\n         zeno {:?}",
+            ours[at], theirs[at]
+        )),
+    }
+}

@@ -1,0 +1,182 @@
+//! The comparison itself: which kinds are run, and how many cases of each.
+
+use std::time::Instant;
+
+use crate::kinds::{bands::Bands, boxes::Boxes, lists::Lists, maps, placements::Placements};
+use crate::kinds::{cells, drawings, run, Kind};
+use compare::boundaries;
+use compare::drawing::{at_a_boundary, at_the_cap, at_the_limits, ordinary, with_just_room};
+use compare::flags::Flags;
+use compare::oracle::Origin;
+use compare::paths::Character;
+use drawings::{Boundaries, Drawings, SmallDrawings};
+
+pub const USAGE: &str = "compare [--seed S] [--scale N] [--only KIND]";
+
+const SEED: u64 = 20_260_101;
+
+/// A run as it was asked for, the group it is in, and what it has counted.
+struct Run<'a> {
+    seed: u64,
+    scale: u64,
+    only: Option<&'a str>,
+    group: &'static str,
+    total: u64,
+}
+
+type Group = fn(&mut Run) -> Result<(), String>;
+
+/// The groups by name, in the order of their running.
+const GROUPS: [(&str, Group); 8] = [
+    ("maps", maps),
+    ("boxes", boxes),
+    ("placements", placements),
+    ("lists", lists),
+    ("cells", cells),
+    ("drawings", drawings),
+    ("refusals", refusals),
+    ("bands", bands),
+];
+
+/// What stops a run: words it does not understand, or a difference.
+pub enum Stopped {
+    Asked(String),
+    Different(String),
+}
+
+/// Runs every kind, or those that are asked for, and prints what was compared.
+pub fn compared(words: &[String]) -> Result<(), Stopped> {
+    let flags = Flags::read(words, &["--seed", "--scale", "--only"]).map_err(Stopped::Asked)?;
+    let mut run = Run {
+        seed: flags.number("--seed", SEED).map_err(Stopped::Asked)?,
+        scale: flags.number("--scale", 1).map_err(Stopped::Asked)?,
+        only: flags.word("--only"),
+        group: "",
+        total: 0,
+    };
+    let start = Instant::now();
+    for (name, group) in GROUPS {
+        run.group = name;
+        group(&mut run).map_err(Stopped::Different)?;
+    }
+    if run.total == 0 {
+        let names = GROUPS.map(|(name, _)| name).join(", ");
+        let what = format!("--only takes one of {names}, or words of a kind's name");
+        return Err(Stopped::Asked(what));
+    }
+    let seconds = start.elapsed().as_secs_f64();
+    println!(
+        "{:>12}  cases in all, no difference, {seconds:.1} s",
+        run.total
+    );
+    Ok(())
+}
+
+impl Run<'_> {
+    /// Whether a kind of this name is to be run: its group or words of its name were asked for.
+    fn is_asked(&self, name: &str) -> bool {
+        let is_group = |word: &str| GROUPS.iter().any(|(group, _)| *group == word);
+        match self.only {
+            None => true,
+            Some(only) if is_group(only) => only == self.group,
+            Some(only) => name.contains(only),
+        }
+    }
+
+    /// Runs so many cases of a kind, times the scale.
+    fn scaled(&mut self, kind: &impl Kind, count: u64) -> Result<(), String> {
+        self.counted(kind, count * self.scale)
+    }
+
+    /// Runs so many cases of a kind and prints its counts, what is in them behind.
+    fn counted<K: Kind>(&mut self, kind: &K, count: u64) -> Result<(), String> {
+        let name = kind.name();
+        if !self.is_asked(&name) {
+            return Ok(());
+        }
+        let start = Instant::now();
+        let tally = run(kind, self.seed, count)?;
+        let cases = tally.cases();
+        let seconds = start.elapsed().as_secs_f64();
+        println!("{cases:>12}  {name}: {}; {seconds:.1} s", tally.told::<K>());
+        self.total += cases;
+        Ok(())
+    }
+}
+
+fn maps(run: &mut Run) -> Result<(), String> {
+    run.counted(&maps::IDENTITY, 1)?;
+    for map in &maps::TRANSFORMS {
+        run.scaled(map, 1_000_000)?;
+    }
+    for map in &maps::POINTS {
+        run.scaled(map, 1_000_000)?;
+    }
+    Ok(())
+}
+
+fn boxes(run: &mut Run) -> Result<(), String> {
+    run.scaled(&Boxes::Finite, 1_000_000)?;
+    run.scaled(&Boxes::Any, 1_000_000)
+}
+
+fn placements(run: &mut Run) -> Result<(), String> {
+    run.scaled(&Placements(Origin::TopLeft), 1_000_000)?;
+    run.scaled(&Placements(Origin::BottomLeft), 1_000_000)
+}
+
+fn lists(run: &mut Run) -> Result<(), String> {
+    run.scaled(&Lists::Bounds, 1_000_000)?;
+    run.scaled(&Lists::Placement, 1_000_000)
+}
+
+fn cells(run: &mut Run) -> Result<(), String> {
+    for (width, height) in [(2, 2), (1, 1), (3, 1), (0, 3)] {
+        run.counted(&cells::SmallCells(width, height), SmallDrawings::count())?;
+    }
+    for character in Character::ALL {
+        run.scaled(&cells::Cells(character), 40_000)?;
+    }
+    Ok(())
+}
+
+fn drawings(run: &mut Run) -> Result<(), String> {
+    run.counted(&SmallDrawings, SmallDrawings::count())?;
+    let labels = Drawings {
+        name: "drawings of every character",
+        make: ordinary,
+    };
+    run.scaled(&labels, 250_000)?;
+    let addresses = Drawings {
+        name: "drawings of addresses",
+        make: drawings::of_an_address,
+    };
+    run.scaled(&addresses, 500)
+}
+
+fn refusals(run: &mut Run) -> Result<(), String> {
+    let table = Boundaries(boundaries::table());
+    run.counted(&table, table.0.len() as u64)?;
+    let kinds = [
+        (
+            "drawings beside a boundary",
+            at_a_boundary as fn(&mut _) -> _,
+            150_000,
+        ),
+        ("drawings with sizes at their limits", at_the_limits, 30_000),
+        (
+            "drawings with just room, or just not",
+            with_just_room,
+            100_000,
+        ),
+        ("drawings about the cap of 16,384 places", at_the_cap, 200),
+    ];
+    for (name, make, count) in kinds {
+        run.scaled(&Drawings { name, make }, count)?;
+    }
+    Ok(())
+}
+
+fn bands(run: &mut Run) -> Result<(), String> {
+    run.scaled(&Bands, 120_000)
+}

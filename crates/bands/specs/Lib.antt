@@ -1,0 +1,3 @@
+pub mod Ink
+pub mod Parts
+pub mod Bands

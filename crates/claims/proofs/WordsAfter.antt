@@ -1,0 +1,140 @@
+-- The workspace after a drawing. Neither the checks nor the reading answer 13: by cases of each rule that refuses.
+use Prim.Native.Nat.{ℕ, zero, suc, _+_, _*_, _-_}
+use mathlib.Core.Path.{_≡_, refl, sym, ap}
+use mathlib.Core.Bool.{Bool, true, false, not, cond, _&&_, _||_}
+use mathlib.Core.List.{List}
+use native.Mathlib.Omega.{arith}
+use lib.Dec.{eqb, ltb}
+use lib.ListN.{length, replicate}
+use Rattle.geometry.specs.declared.Point.{Point}
+use Rattle.geometry.specs.declared.Transform.{Transform}
+use Rattle.storage.specs.Deposits.{Deposit, distinct}
+use Rattle.raster.specs.Path.{depositsOf}
+use Rattle.command.specs.declared.Command.{Command}
+use Rattle.command.specs.Commands.{isMove, pointsOf}
+use Rattle.list.specs.declared.Reason.{Reason}
+use Rattle.list.specs.declared.Reason.the-variants as reason
+use Rattle.list.specs.declared.Step.{Step}
+use Rattle.list.specs.declared.Step.the-variants as step
+use Rattle.list.specs.Records.{stepAt}
+use Rattle.path.specs.declared.Refusal.{Refusal}
+use Rattle.path.specs.declared.Refusal.the-variants.{Size, Band, Pitch, Mask, Workspace, NotFinite, Long, Full, First, Outside}
+use Rattle.path.specs.declared.Verdict.{Verdict}
+use Rattle.path.specs.declared.Verdict.the-variants.{Fine, Faulty}
+use Rattle.path.specs.Refusals.{numberOf, refusalOf}
+use Rattle.path.specs.Inputs.{mostBytes, finitePoint, finiteTransform, inputsOf}
+use Rattle.path.specs.Reading.{Read, refused, path, before, judged, allPass, verdictOf, readStep, readFrom, readList}
+use Rattle.path.specs.Strokes.{strokesOf}
+use Rattle.label.specs.declared.Label.{Label}
+use Rattle.label.specs.declared.Answer.the-variants.{Drawn, Refused}
+use Rattle.label.specs.Checks.{mostPixels, mostPitch, rows, sizesOf, andThen, checkedOf}
+use Rattle.label.specs.Draw.{poolOf, frameOf, Outcome, outcome, paintedOf, inked, drawnFrom, checkedDraw, drawOf}
+use Rattle.claims.specs.OldContents.{wordsAfter, WordsAfter}
+
+-- ---- neither the checks nor the reading answer 13
+
+abbrev Early : Refusal → Type 0
+Early w = eqb (numberOf w) 13 ≡ false
+
+-- of a verdict, should it be a refusal
+record EarlyVerdict (v : Verdict) : Type 0 where
+  pub early : (w : Refusal) → v ≡ Faulty w → Early w
+
+abbrev EarlyRead : Read → Type 0
+EarlyRead (path cs) = Unit {0}
+EarlyRead (refused w i) = Early w
+
+fine : EarlyVerdict Fine
+fine = record { early = λ w e. absurd (let z : _≡_ {A = ℕ} 0 1 = cc in omega arith) }
+
+faulty : (w : Refusal) → Early w → EarlyVerdict (Faulty w)
+faulty w h = record { early = λ w′ e. let p : w ≡ w′ = cc in rw (← p) h }
+
+either : (b : Bool) (v w : Verdict) → EarlyVerdict v → EarlyVerdict w → EarlyVerdict (cond b v w)
+either true v w p q = p
+either false v w p q = q
+
+sizes : (l : Label) (mask words : ℕ) → EarlyVerdict (sizesOf l mask words)
+unfolding sizesOf
+sizes l mask words =
+    either (ltb mostPixels (l .width) || ltb mostPixels (l .height)) _ _ (faulty Size refl)
+    (either (ltb (l .end) (l .first) || ltb (l .height) (l .end)) _ _ (faulty Band refl)
+    (either (ltb (l .pitch) (l .width) || ltb mostPitch (l .pitch)) _ _ (faulty Pitch refl)
+    (either (ltb 0 (rows l) && ltb mask (l .pitch * (rows l - 1) + l .width)) _ _ (faulty Mask refl)
+    (either (ltb words (rows l)) _ _ (faulty Workspace refl) fine))))
+
+inputs : (t : Transform) (o : Point) (list : ℕ) → EarlyVerdict (inputsOf t o list)
+unfolding inputsOf
+inputs t o list =
+    either (not (finiteTransform t && finitePoint o)) _ _ (faulty NotFinite refl)
+    (either (ltb mostBytes list) _ _ (faulty Long refl) fine)
+
+then : (v w : Verdict) → EarlyVerdict v → EarlyVerdict w → EarlyVerdict (andThen v w)
+then Fine w p q = q
+then (Faulty r) w p q = p
+
+checked : (l : Label) (list mask words : ℕ) → EarlyVerdict (checkedOf l list mask words)
+unfolding checkedOf
+checked l list mask words = then (sizesOf l mask words) (inputsOf (l .transform) (l .offset) list) (sizes l mask words) (inputs (l .transform) (l .offset) list)
+
+verdict : (t : Transform) (o : Point) (i : ℕ) (c : Command) → EarlyVerdict (verdictOf t o i c)
+unfolding verdictOf
+verdict t o i c = either (eqb i 0 && not (isMove c)) _ _ (faulty First refl) (either (allPass t o (pointsOf c)) _ _ fine (faulty Outside refl))
+
+reasons : (why : Reason) → Early (refusalOf why)
+reasons reason.Cut = refl
+reasons reason.Kind = refl
+reasons reason.Length = refl
+
+behind : (c : Command) (r : Read) → EarlyRead r → EarlyRead (before c r)
+behind c (refused w i) h = h
+behind c (path cs) h = tt
+
+judging : (v : Verdict) (i : ℕ) (c : Command) (r : Read) → EarlyVerdict v → EarlyRead r → EarlyRead (judged v i c r)
+judging Fine i c r p q = behind c r q
+judging (Faulty w) i c r p q = p .early w refl
+
+stepping : (t : Transform) (o : Point) (i : ℕ) (s : Step) (rest : ℕ → Read) → ((n : ℕ) → EarlyRead (rest n)) → EarlyRead (readStep t o i s rest)
+unfolding readStep
+stepping t o i step.End rest h = tt
+stepping t o i (step.Refused why) rest h = reasons why
+stepping t o i (step.Command c next) rest h = judging (verdictOf t o i c) i c (rest next) (verdict t o i c) (h next)
+
+reading : (n : ℕ) (t : Transform) (o : Point) (s : List ℕ) (at i : ℕ) → EarlyRead (readFrom n t o s at i)
+unfolding readFrom
+reading zero t o s at i = tt
+reading (suc n) t o s at i = stepping t o i (stepAt s at) (λ next. readFrom n t o s next (i + 1)) (λ next. reading n t o s next (i + 1))
+
+read : (t : Transform) (o : Point) (s : List ℕ) → EarlyRead (readList t o s)
+unfolding readList
+read t o s = reading (length s + 1) t o s 0 0
+
+-- ---- the words afterwards
+
+abbrev After : List ℕ → Outcome → Type 0
+After words o = o .words ≡ wordsAfter (o .answer) words
+
+refusing : (w : Refusal) (i : ℕ) (mask words : List ℕ) → Early w → After words (outcome (Refused w i) mask words)
+refusing w i mask words h = sym (ap (λ (b : Bool). cond b (replicate (length words) 0) words) h)
+
+inking : (l : Label) (mask words : List ℕ) (records : ℕ) (log : List Deposit) → After words (inked l mask words records log)
+unfolding inked
+inking l mask words records log = pick (ltb (poolOf l (length words)) (distinct log))
+  where
+    pick : (b : Bool) → After words (cond b (outcome (Refused Full 0) mask (replicate (length words) 0)) (outcome (Drawn records (distinct log)) (paintedOf l log mask) (replicate (length words) 0)))
+    pick true = refl
+    pick false = refl
+
+drawing : (l : Label) (mask words : List ℕ) (r : Read) → EarlyRead r → After words (drawnFrom l mask words r)
+unfolding drawnFrom
+drawing l mask words (refused w i) h = refusing w i mask words h
+drawing l mask words (path cs) h = inking l mask words (length cs) (depositsOf (frameOf l) (strokesOf (l .transform) (l .offset) cs))
+
+checking : (v : Verdict) (l : Label) (s mask words : List ℕ) → EarlyVerdict v → After words (checkedDraw v l s mask words)
+unfolding checkedDraw
+checking (Faulty w) l s mask words h = refusing w 0 mask words (h .early w refl)
+checking Fine l s mask words h = drawing l mask words (readList (l .transform) (l .offset) s) (read (l .transform) (l .offset) s)
+
+pub words-after : WordsAfter
+unfolding drawOf
+words-after l s mask words = checking (checkedOf l (length s) (length mask) (length words)) l s mask words (checked l (length s) (length mask) (length words))

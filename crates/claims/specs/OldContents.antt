@@ -1,0 +1,65 @@
+-- Document 01, "How much must be pinned": "Neither old mask bytes nor old workspace words may influence an answer, a written byte or a count", and
+-- "Lent bytes and words that no rule names stay as they were". Of `drawOf`, for every label, list, mask and workspace.
+use Prim.Native.Nat.{ℕ, _+_, _*_, _<_}
+use mathlib.Core.Path.{_≡_}
+use mathlib.Core.Bool.{Bool, true, false, cond}
+use mathlib.Core.List.{List}
+use lib.Dec.{eqb}
+use lib.ListN.{length, getD, replicate}
+use Rattle.path.specs.Refusals.{numberOf}
+use Rattle.label.specs.declared.Label.{Label}
+use Rattle.label.specs.declared.Answer.{Answer}
+use Rattle.label.specs.declared.Answer.the-variants.{Drawn, Refused}
+use Rattle.label.specs.Checks.{rows}
+use Rattle.label.specs.Draw.{Outcome, drawOf}
+
+abbrev pub accepts : Answer → Bool
+accepts (Drawn records cells) = true
+accepts (Refused why index) = false
+
+-- 0 or 13
+abbrev pub wipes : Answer → Bool
+wipes (Drawn records cells) = true
+wipes (Refused why index) = eqb (numberOf why) 13
+
+-- ---- the words
+
+-- "all but 13 leave the workspace unchanged too. After 0 or 13 all its words are zero"
+abbrev pub wordsAfter : Answer → List ℕ → List ℕ
+wordsAfter a words = cond (wipes a) (replicate (length words) 0) words
+
+abbrev pub WordsAfter : Type 0
+WordsAfter = (l : Label) (s mask words : List ℕ) → drawOf l s mask words .words ≡ wordsAfter (drawOf l s mask words .answer) words
+
+-- two outcomes that are one, but for words that a refusal left
+pub record AlikeButWords (o o′ : Outcome) : Type 0 where
+  pub answer : o .answer ≡ o′ .answer
+  pub mask : o .mask ≡ o′ .mask
+  pub words : wipes (o .answer) ≡ true → o .words ≡ o′ .words
+
+-- as many words, of other contents
+abbrev pub OldWords : Type 0
+OldWords = (l : Label) (s mask words words′ : List ℕ) → length words ≡ length words′ → AlikeButWords (drawOf l s mask words) (drawOf l s mask words′)
+
+-- ---- the mask: the byte at column x of the band's line y
+abbrev pub spotOf : Label → ℕ → ℕ → ℕ
+spotOf l y x = l .pitch * y + x
+
+-- "Refusals leave the mask unchanged"; "Acceptance writes width bytes in each band row and no others"
+pub record MaskAfter (l : Label) (mask : List ℕ) (o : Outcome) : Type 0 where
+  pub long : length (o .mask) ≡ length mask
+  pub refused : accepts (o .answer) ≡ false → o .mask ≡ mask
+  pub others : (i : ℕ) → i < length mask → ((y x : ℕ) → y < rows l → x < l .width → i ≡ spotOf l y x → ⊥) → getD (o .mask) i 0 ≡ getD mask i 0
+
+abbrev pub MasksAfter : Type 0
+MasksAfter = (l : Label) (s mask words : List ℕ) → MaskAfter l mask (drawOf l s mask words)
+
+-- two outcomes with one answer, the same words and the same written bytes
+pub record AlikeButMask (l : Label) (o o′ : Outcome) : Type 0 where
+  pub answer : o .answer ≡ o′ .answer
+  pub words : o .words ≡ o′ .words
+  pub written : accepts (o .answer) ≡ true → (y x : ℕ) → y < rows l → x < l .width → getD (o .mask) (spotOf l y x) 0 ≡ getD (o′ .mask) (spotOf l y x) 0
+
+-- as many bytes, of other contents
+abbrev pub OldMask : Type 0
+OldMask = (l : Label) (s mask mask′ words : List ℕ) → length mask ≡ length mask′ → AlikeButMask l (drawOf l s mask words) (drawOf l s mask′ words)

@@ -1,0 +1,3 @@
+pub mod Cubics
+pub mod Depth
+pub mod Table

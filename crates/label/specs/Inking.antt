@@ -1,0 +1,49 @@
+-- What the inner functions of a drawing ask and promise.
+use Prim.Native.Nat.{ℕ, _+_, _*_, _-_, _≤_, _<_}
+use mathlib.Core.Path.{_≡_}
+use mathlib.Core.List.{List}
+use lib.ListN.{length}
+use Rattle.storage.specs.declared.Kept.{Kept}
+use Rattle.storage.specs.Cells.{Holds}
+use Rattle.storage.specs.Answers.{Within, Stored}
+use Rattle.command.specs.declared.Command.{Command}
+use Rattle.raster.specs.Path.{depositsOf}
+use Rattle.path.specs.Reading.{path, readList}
+use Rattle.path.specs.Strokes.{strokesOf}
+use Rattle.label.specs.declared.Label.{Label}
+use Rattle.label.specs.declared.Answer.{Answer}
+use Rattle.label.specs.declared.Answer.the-variants.{Drawn}
+use Rattle.label.specs.Checks.{mostPixels, mostPitch, rows}
+use Rattle.label.specs.Draw.{poolOf, frameOf, Outcome, inked, drawOf}
+
+-- a label that passes 1 to 3
+pub record Sized (l : Label) : Type 0 where
+  pub narrow : l .width ≤ mostPixels
+  pub low : l .height ≤ mostPixels
+  pub ordered : l .first ≤ l .end
+  pub inside : l .end ≤ l .height
+  pub pitched : l .width ≤ l .pitch
+  pub near : l .pitch ≤ mostPitch
+
+-- a mask and a workspace that pass 4 and 5
+pub record Lent (l : Label) (mask words : ℕ) : Type 0 where
+  pub lines : 0 < rows l → l .pitch * (rows l - 1) + l .width ≤ mask
+  pub heads : rows l ≤ words
+
+-- of an accepted list: what its strokes store is in the words, or is too much for the pool
+pub record Poured (l : Label) (s before after : List ℕ) (r : Kept) : Type 0 where
+  pub within : Within (poolOf l (length before)) r
+  pub same : length after ≡ length before
+  pub stored : (cs : List Command) → readList (l .transform) (l .offset) s ≡ path cs
+      → Stored after (rows l) (l .width) (poolOf l (length before)) (depositsOf (frameOf l) (strokesOf (l .transform) (l .offset) cs)) r
+
+-- of an accepted list: the outcome is the rule's
+pub record Inked (l : Label) (records : ℕ) (s mask words : List ℕ) (o : Outcome) : Type 0 where
+  pub rule : (cs : List Command) → readList (l .transform) (l .offset) s ≡ path cs
+      → o ≡ inked l mask words records (depositsOf (frameOf l) (strokesOf (l .transform) (l .offset) cs))
+
+-- `draw`'s answer for a mask of that length; where it is accepted the words hold what the strokes store
+pub record Celled (l : Label) (s : List ℕ) (mask : ℕ) (before after : List ℕ) (r : Answer) : Type 0 where
+  pub told : (m : List ℕ) → length m ≡ mask → r ≡ drawOf l s m before .answer
+  pub held : (records n : ℕ) → r ≡ Drawn records n → (cs : List Command) → readList (l .transform) (l .offset) s ≡ path cs
+      → Holds after (rows l) (l .width) n (depositsOf (frameOf l) (strokesOf (l .transform) (l .offset) cs))

@@ -1,0 +1,13 @@
+pub mod Signs
+pub mod Tests
+pub mod Pairs
+pub mod Cases
+pub mod Ways
+pub mod Course
+pub mod Turning
+pub mod Begun
+pub mod Walking
+pub mod Trail
+pub mod Reached
+pub mod Whole
+pub mod Unseen

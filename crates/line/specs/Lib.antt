@@ -1,0 +1,7 @@
+pub mod Signs
+pub mod Range
+pub mod Walk
+pub mod Lines
+pub mod Course
+pub mod Trail
+pub mod Table

@@ -1,0 +1,4 @@
+pub mod Points
+pub mod Walk
+pub mod Tracking
+pub mod Finite

@@ -1,0 +1,136 @@
+-- The loop over a list's records keeps what is left to read.
+use Prim.Native.Nat.{ℕ, zero, suc, _+_, _-_, _≤_, _<_}
+use mathlib.Core.Path.{_≡_, refl, sym, ap, _∙_}
+use mathlib.Core.Bool.{Bool, true, false}
+use mathlib.Core.List.{List, [], _∷_}
+use native.Mathlib.Omega.{arith}
+use lib.ListN.{length}
+use Rattle.geometry.specs.declared.Point.{Point}
+use Rattle.geometry.specs.declared.Transform.{Transform}
+use Rattle.command.specs.declared.Command.{Command}
+use Rattle.list.specs.declared.Reason.{Reason}
+use Rattle.list.specs.declared.Step.{Step}
+use Rattle.list.specs.declared.Step.the-variants as step
+use Rattle.list.specs.Records.{stepAt}
+use Rattle.list.proofs.Next.{next-in}
+use Rattle.path.specs.declared.Refusal.{Refusal}
+use Rattle.path.specs.declared.Judged.{Judged}
+use Rattle.path.specs.declared.Judged.the-variants.{Records, Refused}
+use Rattle.path.specs.declared.Verdict.{Verdict}
+use Rattle.path.specs.declared.Verdict.the-variants.{Fine, Faulty}
+use Rattle.path.specs.Refusals.{refusalOf}
+use Rattle.path.specs.Reading.{Read, refused, path, before, judged, verdictOf, readStep, readFrom, readList, judgedOf}
+
+-- so many records, and those that are still read
+abbrev tallied : ℕ → Read → Judged
+tallied n (path cs) = Records (n + length cs)
+tallied n (refused w i) = Refused w i
+
+tallied-none : (r : Read) → tallied 0 r ≡ judgedOf r
+unfolding judgedOf
+tallied-none (path cs) = ap Records (omega arith)
+tallied-none (refused w i) = refl
+
+tallied-one : (n : ℕ) (c : Command) (r : Read) → tallied n (before c r) ≡ tallied (n + 1) r
+tallied-one n c (path cs) = ap Records (omega arith)
+tallied-one n c (refused w i) = refl
+
+module _ (t : Transform) (o : Point) (s : List ℕ) where
+  -- one step, where there is fuel
+  pub one : (f at i : ℕ) → 0 < f → readFrom f t o s at i ≡ readStep t o i (stepAt s at) (λ next. readFrom (f - 1) t o s next (i + 1))
+  unfolding readFrom
+  one zero at i h = absurd (omega arith)
+  one (suc f) at i h =
+      let e : suc f - 1 ≡ f = omega arith in
+      rw e
+
+  -- n records have been judged, and from `at` on what is left is judged as the whole
+  pub record Going (at n : ℕ) : Type 0 where
+    pub fuel : ℕ
+    pub enough : length s < fuel + at
+    pub inside : at ≤ length s
+    pub few : n ≤ at
+    pub same : tallied n (readFrom fuel t o s at n) ≡ judgedOf (readList t o s)
+
+  pub started : Going 0 0
+  unfolding readList
+  started = record {
+    fuel = length s + 1;
+    enough = omega arith;
+    inside = omega arith;
+    few = omega arith;
+    same = tallied-none (readFrom (length s + 1) t o s 0 0);
+  }
+
+  module _ (at n : ℕ) (g : Going at n) where
+    rest : ℕ → Read
+    rest next = readFrom (g .fuel - 1) t o s next (n + 1)
+
+    step-is : tallied n (readStep t o n (stepAt s at) rest) ≡ judgedOf (readList t o s)
+    unfolding rest
+    step-is = ap (tallied n) (sym (one (g .fuel) at n (omega arith))) ∙ g .same
+
+    pub ended : stepAt s at ≡ step.End → Records n ≡ judgedOf (readList t o s)
+    unfolding readStep
+    ended e =
+        let z : n + 0 ≡ n = omega arith in
+        ap Records (sym z) ∙ rw e at step-is
+
+    pub turned : (w : Reason) → stepAt s at ≡ step.Refused w → Refused (refusalOf w) n ≡ judgedOf (readList t o s)
+    unfolding readStep
+    turned w e = rw e at step-is
+
+    module _ (c : Command) (next : ℕ) (e : stepAt s at ≡ step.Command c next) where
+      pub faulty : (w : Refusal) → verdictOf t o n c ≡ Faulty w → Refused w n ≡ judgedOf (readList t o s)
+      unfolding readStep
+      faulty w v = rw (e, v) at step-is
+
+      goes : verdictOf t o n c ≡ Fine → tallied n (before c (rest next)) ≡ judgedOf (readList t o s)
+      unfolding readStep
+      goes v = rw (e, v) at step-is
+
+      pub goes-on : verdictOf t o n c ≡ Fine → Going next (n + 1)
+      unfolding rest
+      goes-on v =
+          let b = next-in s at c next e in
+          record {
+            fuel = g .fuel - 1;
+            enough = omega (arith, b .past, b .inside);
+            inside = b .inside;
+            few = omega (arith, b .past);
+            same = sym (tallied-one n c (rest next)) ∙ goes v;
+          }
+
+  -- ---- an accepted list: what is left of it are commands
+
+  pub at-the-end : (f at i : ℕ) (cs : List Command) → 0 < f → readFrom f t o s at i ≡ path cs → stepAt s at ≡ step.End → cs ≡ []
+  unfolding readStep
+  at-the-end f at i cs h r e = commands (rw e at (sym (one f at i h) ∙ r))
+    where
+      commands : {xs ys : List Command} → path xs ≡ path ys → ys ≡ xs
+      commands p = cc
+
+  pub never-refused : (f at i : ℕ) (cs : List Command) (w : Reason) → 0 < f → readFrom f t o s at i ≡ path cs → stepAt s at ≡ step.Refused w → ⊥
+  unfolding readStep
+  never-refused f at i cs w h r e = clash (rw e at (sym (one f at i h) ∙ r))
+    where
+      clash : {w : Refusal} {i : ℕ} {cs : List Command} → refused w i ≡ path cs → ⊥
+      clash p = let z : _≡_ {A = ℕ} 0 1 = cc in omega arith
+
+  -- a command, and the commands behind it
+  pub record Onward (f i : ℕ) (c : Command) (next : ℕ) (cs : List Command) : Type 0 where
+    pub behind : List Command
+    pub splits : cs ≡ (c ∷ behind)
+    pub reads : readFrom (f - 1) t o s next (i + 1) ≡ path behind
+
+  split : (f i : ℕ) (c : Command) (next : ℕ) (cs : List Command) (r : Read) → readFrom (f - 1) t o s next (i + 1) ≡ r → before c r ≡ path cs → Onward f i c next cs
+  split f i c next cs (path bs) e p = record { behind = bs; splits = cc; reads = e }
+  split f i c next cs (refused w k) e p = absurd (let z : _≡_ {A = ℕ} 0 1 = cc in omega arith)
+
+  judge-split : (f i : ℕ) (c : Command) (next : ℕ) (cs : List Command) (v : Verdict) → judged v i c (readFrom (f - 1) t o s next (i + 1)) ≡ path cs → Onward f i c next cs
+  judge-split f i c next cs Fine p = split f i c next cs (readFrom (f - 1) t o s next (i + 1)) refl p
+  judge-split f i c next cs (Faulty w) p = absurd (let z : _≡_ {A = ℕ} 0 1 = cc in omega arith)
+
+  pub onward : (f at i : ℕ) (cs : List Command) (c : Command) (next : ℕ) → 0 < f → readFrom f t o s at i ≡ path cs → stepAt s at ≡ step.Command c next → Onward f i c next cs
+  unfolding readStep
+  onward f at i cs c next h r e = judge-split f i c next cs (verdictOf t o i c) (rw e at (sym (one f at i h) ∙ r))

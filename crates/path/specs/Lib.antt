@@ -1,0 +1,4 @@
+pub mod Refusals
+pub mod Inputs
+pub mod Reading
+pub mod Strokes

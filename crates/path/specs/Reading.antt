@@ -1,0 +1,83 @@
+-- Document 01, "When a label is turned away": the records, front to back, the first faulty one deciding; within a record: header cut,
+-- 9, 10, body cut (the crate `list`), 11, 12.
+use Prim.Native.Nat.{ℕ, zero, suc, _+_}
+use mathlib.Core.Bool.{Bool, true, false, not, cond, _&&_}
+use mathlib.Core.List.{List, [], _∷_}
+use lib.ListN.{length}
+use lib.Dec.{eqb}
+use lib.Ieee.{add, mul}
+use Rattle.geometry.specs.declared.Point.{Point}
+use Rattle.geometry.specs.declared.Transform.{Transform}
+use Rattle.geometry.specs.Affine.{moved, shifted}
+use Rattle.fixed.specs.declared.Spot.{Spot}
+use Rattle.fixed.specs.declared.Spot.the-variants as spot
+use Rattle.fixed.specs.Fixed.{spotOf}
+use Rattle.command.specs.declared.Command.{Command}
+use Rattle.command.specs.Commands.{isMove, pointsOf}
+use Rattle.list.specs.declared.Step.{Step}
+use Rattle.list.specs.declared.Step.the-variants as step
+use Rattle.list.specs.Records.{stepAt}
+use Rattle.path.specs.declared.Refusal.{Refusal}
+use Rattle.path.specs.declared.Refusal.the-variants.{First, Outside}
+use Rattle.path.specs.declared.Verdict.{Verdict}
+use Rattle.path.specs.declared.Verdict.the-variants.{Fine, Faulty}
+use Rattle.path.specs.declared.Judged.{Judged}
+use Rattle.path.specs.declared.Judged.the-variants.{Records, Refused}
+use Rattle.path.specs.Refusals.{refusalOf}
+
+-- a point of the list under the transform, and then the offset added, by the point rule
+unfoldable pub spotAt : Transform → Point → Point → Spot
+unfolding spotOf add mul
+spotAt t o p = spotOf (shifted o (moved t p))
+
+abbrev pub passed : Spot → Bool
+passed (spot.At p n) = true
+passed spot.Outside = false
+
+unfoldable pub allPass : Transform → Point → List Point → Bool
+unfolding spotAt
+allPass t o [] = true
+allPass t o (p ∷ ps) = passed (spotAt t o p) && allPass t o ps
+
+-- the record of index i: 11, the first record is not MoveTo; 12, a point fails the point rule
+unfoldable pub verdictOf : Transform → Point → ℕ → Command → Verdict
+unfolding allPass
+verdictOf t o i c =
+    cond (eqb i 0 && not (isMove c)) (Faulty First)
+    (cond (allPass t o (pointsOf c)) Fine
+    (Faulty Outside))
+
+-- a list as it is read: its commands, or the first fault and the index of its record
+pub data Read : Type 0 where
+  refused : Refusal → ℕ → Read
+  path : List Command → Read
+
+abbrev pub before : Command → Read → Read
+before c (refused w i) = refused w i
+before c (path cs) = path (c ∷ cs)
+
+abbrev pub judged : Verdict → ℕ → Command → Read → Read
+judged Fine i c rest = before c rest
+judged (Faulty w) i c rest = refused w i
+
+-- what is read where this stands, `rest` being what is read from a place on
+unfoldable pub readStep : Transform → Point → ℕ → Step → (ℕ → Read) → Read
+unfolding verdictOf
+readStep t o i step.End rest = path []
+readStep t o i (step.Refused why) rest = refused (refusalOf why) i
+readStep t o i (step.Command c next) rest = judged (verdictOf t o i c) i c (rest next)
+
+-- from a place and the index i on. A record has four bytes or more, so fuel above the number of bytes that are left suffices
+unfoldable pub readFrom : ℕ → Transform → Point → List ℕ → ℕ → ℕ → Read
+unfolding readStep stepAt
+readFrom zero t o s at i = path []
+readFrom (suc n) t o s at i = readStep t o i (stepAt s at) (λ next. readFrom n t o s next (i + 1))
+
+unfoldable pub readList : Transform → Point → List ℕ → Read
+unfolding readFrom
+readList t o s = readFrom (length s + 1) t o s 0 0
+
+-- how many records an accepted list has
+unfoldable pub judgedOf : Read → Judged
+judgedOf (path cs) = Records (length cs)
+judgedOf (refused w i) = Refused w i

@@ -1,0 +1,50 @@
+-- The strokes of a path: its commands in fixed numbers.
+use Prim.Native.Nat.{ℕ}
+use mathlib.Core.Path.{_≡_}
+use mathlib.Core.List.{List, map, _++_}
+use lib.ListN.{length}
+use Rattle.geometry.specs.declared.Point.{Point}
+use Rattle.geometry.specs.declared.Transform.{Transform}
+use Rattle.fixed.specs.declared.FixedPoint.{FixedPoint}
+use Rattle.fixed.specs.declared.Spot.{Spot}
+use Rattle.fixed.specs.declared.Spot.the-variants as spot
+use Rattle.command.specs.declared.Command.{Command}
+use Rattle.command.specs.declared.Command.the-variants.{MoveTo, LineTo, QuadTo, CurveTo, Close}
+use Rattle.raster.specs.declared.Stroke.{Stroke}
+use Rattle.raster.specs.declared.Stroke.the-variants as stroke
+use Rattle.storage.specs.declared.Kept.{Kept}
+use Rattle.storage.specs.declared.Kept.the-variants.{Cells}
+use Rattle.storage.specs.Answers.{Within}
+use Rattle.pen.specs.declared.Frame.{Frame}
+use Rattle.pen.specs.Marks.{nowhere, after, left, lastOf}
+use Rattle.pen.specs.Drawing.{Added}
+use Rattle.raster.specs.Path.{corner, marks}
+use Rattle.path.specs.Reading.{spotAt, Read, path, readList}
+
+-- the fixed point of a spot; the corner for one outside, which no accepted list has
+abbrev pub pointIn : Spot → FixedPoint
+pointIn (spot.At p n) = p
+pointIn spot.Outside = corner
+
+unfoldable pub fixedAt : Transform → Point → Point → FixedPoint
+unfolding spotAt
+fixedAt t o p = pointIn (spotAt t o p)
+
+unfoldable pub strokeOf : Transform → Point → Command → Stroke
+unfolding fixedAt
+strokeOf t o (MoveTo p) = stroke.Move (fixedAt t o p)
+strokeOf t o (LineTo p) = stroke.Line (fixedAt t o p)
+strokeOf t o (QuadTo c p) = stroke.Quad (fixedAt t o c) (fixedAt t o p)
+strokeOf t o (CurveTo c d p) = stroke.Cubic (fixedAt t o c) (fixedAt t o d) (fixedAt t o p)
+strokeOf t o Close = stroke.Close
+
+unfoldable pub strokesOf : Transform → Point → List Command → List Stroke
+unfolding strokeOf
+strokesOf t o cs = map (strokeOf t o) cs
+
+-- An accepted list's strokes are drawn: what they leave is added to what the words held.
+pub record Traced (f : Frame) (cap : ℕ) (ws ws′ : List ℕ) (t : Transform) (o : Point) (s : List ℕ) (r : Kept) : Type 0 where
+  pub within : Within cap r
+  pub same : length ws′ ≡ length ws
+  pub adds : (cs : List Command) → readList t o s ≡ path cs
+      → Added f cap ws ws′ (Cells 0) r (left nowhere (marks f (strokesOf t o cs)) ++ lastOf (after nowhere (marks f (strokesOf t o cs))))

@@ -1,0 +1,264 @@
+// A path list as a whole: its records are judged front to back, and an accepted list is drawn stroke by stroke into the pool.
+// Also the refusals of document 01's table, which all public answers share.
+use command::Command;
+use fixed::FixedPoint;
+use fixed::Spot;
+use geometry::Point;
+use geometry::Transform;
+use list::Reason;
+use list::Step;
+use pen::Frame;
+use raster::Stroke;
+use storage::Kept;
+ghost use mathlib.Core.Path.{_≡_};
+ghost use mathlib.Core.List.{[], _∷_};
+ghost use Prim.Native.Nat.{_≤_, _<_};
+ghost use lib.ListN.{length};
+ghost use Rattle.pen.specs.Drawing.{Ready};
+ghost use Rattle.line.specs.Range.{Reach};
+ghost use Rattle.raster.specs.Tracing.{ReachAll};
+ghost use Rattle.path.specs.Refusals.{numberOf, refusalOf};
+ghost use Rattle.path.specs.Inputs.{finitePoint, finiteTransform, inputsOf};
+ghost use Rattle.path.specs.Reading.{spotAt, passed, allPass, verdictOf, readList, judgedOf};
+ghost use Rattle.path.specs.Strokes.{fixedAt, strokeOf, Traced};
+ghost use Rattle.command.specs.Commands.{pointsOf};
+
+// The longest list, in bytes.
+const MOST_BYTES: usize = 65536;
+
+// Why a label is turned away.
+pub enum Refusal {
+    // 1: width or height above 2,048.
+    Size,
+    // 2: first > end, or end > height.
+    Band,
+    // 3: pitch below width or above 65,536.
+    Pitch,
+    // 4: the mask is too short.
+    Mask,
+    // 5: the workspace has fewer words than rows.
+    Workspace,
+    // 6: a transform entry or offset part is NaN or infinite.
+    NotFinite,
+    // 7: the list is longer than 65,536 bytes.
+    Long,
+    // 8: a record is cut.
+    Cut,
+    // 9: a kind is not 1 to 5.
+    Kind,
+    // 10: a length is not the kind's.
+    Length,
+    // 11: the first record is not MoveTo.
+    First,
+    // 12: a point fails the point rule.
+    Outside,
+    // 13: more places than the pool holds.
+    Full,
+}
+
+// A judgement: nothing is at fault, or this is.
+pub enum Verdict {
+    Fine,
+    Faulty(Refusal),
+}
+
+pub fn number_of(why: Refusal) -> u32
+    ensures { λ r. ⌜ r ≡ numberOf why ⌝ }
+{
+    match why {
+        Refusal::Size => 1,
+        Refusal::Band => 2,
+        Refusal::Pitch => 3,
+        Refusal::Mask => 4,
+        Refusal::Workspace => 5,
+        Refusal::NotFinite => 6,
+        Refusal::Long => 7,
+        Refusal::Cut => 8,
+        Refusal::Kind => 9,
+        Refusal::Length => 10,
+        Refusal::First => 11,
+        Refusal::Outside => 12,
+        Refusal::Full => 13,
+    }
+}
+
+fn finite_point(p: Point) -> bool
+    ensures { λ r. ⌜ r ≡ finitePoint p ⌝ }
+{
+    float::is_finite(p.x) && float::is_finite(p.y)
+}
+
+fn finite_transform(t: Transform) -> bool
+    ensures { λ r. ⌜ r ≡ finiteTransform t ⌝ }
+{
+    if finite_point(Point { x: t.xx, y: t.xy }) {
+        if finite_point(Point { x: t.yx, y: t.yy }) {
+            return finite_point(Point { x: t.x, y: t.y });
+        }
+    }
+    false
+}
+
+// Checks 6 and 7.
+pub fn check_inputs(t: Transform, o: Point, list: usize) -> Verdict
+    ensures { λ r. ⌜ r ≡ inputsOf t o list ⌝ }
+{
+    if !finite_transform(t) {
+        return Verdict::Faulty(Refusal::NotFinite);
+    }
+    if !finite_point(o) {
+        return Verdict::Faulty(Refusal::NotFinite);
+    }
+    if MOST_BYTES < list {
+        return Verdict::Faulty(Refusal::Long);
+    }
+    Verdict::Fine
+}
+
+// The refusal of a record that cannot be read.
+fn refusal_of(why: Reason) -> Refusal
+    ensures { λ r. ⌜ r ≡ refusalOf why ⌝ }
+{
+    match why {
+        Reason::Cut => Refusal::Cut,
+        Reason::Kind => Refusal::Kind,
+        Reason::Length => Refusal::Length,
+    }
+}
+
+// A point under the transform and the offset, by the point rule.
+fn spot_at(t: Transform, o: Point, p: Point) -> Spot
+    ensures { λ r. ⌜ r ≡ spotAt t o p ⌝ }
+{
+    fixed::from_point(t.transform_point(p).plus(o))
+}
+
+fn passes(t: Transform, o: Point, p: Point) -> bool
+    ensures { λ r. ⌜ r ≡ passed (spotAt t o p) ⌝ }
+{
+    match spot_at(t, o, p) {
+        Spot::At { point: _, cuts: _ } => true,
+        Spot::Outside => false,
+    }
+}
+
+fn both_pass(t: Transform, o: Point, a: Point, b: Point) -> bool
+    ensures { λ r. ⌜ r ≡ allPass t o (a ∷ b ∷ []) ⌝ }
+{
+    passes(t, o, a) && passes(t, o, b)
+}
+
+// Whether every point of a command passes the point rule.
+fn all_pass(t: Transform, o: Point, k: Command) -> bool
+    ensures { λ r. ⌜ r ≡ allPass t o (pointsOf k) ⌝ }
+{
+    match k {
+        Command::MoveTo(p) => passes(t, o, p),
+        Command::LineTo(p) => passes(t, o, p),
+        Command::QuadTo(c, p) => both_pass(t, o, c, p),
+        Command::CurveTo(c, d, p) => passes(t, o, c) && both_pass(t, o, d, p),
+        Command::Close => true,
+    }
+}
+
+// The record of index i: 11, then 12.
+fn verdict_of(t: Transform, o: Point, i: u32, k: Command) -> Verdict
+    ensures { λ r. ⌜ r ≡ verdictOf t o i k ⌝ }
+{
+    if i == 0 {
+        if !k.is_move() {
+            return Verdict::Faulty(Refusal::First);
+        }
+    }
+    if all_pass(t, o, k) {
+        return Verdict::Fine;
+    }
+    Verdict::Faulty(Refusal::Outside)
+}
+
+// What a list is: so many records, or the first fault and the index of its record.
+pub enum Judged {
+    Records(u32),
+    Refused(Refusal, u32),
+}
+
+// Judges the records front to back.
+pub fn judge(list: &[u8], t: Transform, o: Point) -> Judged
+    requires { ⌜ length (now list) ≤ 65536 ⌝ }
+    ensures { λ r. ⌜ r ≡ judgedOf (readList t o (now (list .entry))) ⌝ }
+{
+    let mut at: usize = 0;
+    let mut n: u32 = 0;
+    loop {
+        match list::step_at(list, at) {
+            Step::End => {
+                return Judged::Records(n);
+            }
+            Step::Refused(why) => {
+                return Judged::Refused(refusal_of(why), n);
+            }
+            Step::Command(k, next) => {
+                match verdict_of(t, o, n, k) {
+                    Verdict::Fine => {
+                        n += 1;
+                        at = next;
+                    }
+                    Verdict::Faulty(why) => {
+                        return Judged::Refused(why, n);
+                    }
+                }
+            }
+        }
+    }
+}
+
+// A point in fixed numbers.
+fn fixed_at(t: Transform, o: Point, p: Point) -> FixedPoint
+    ensures { λ r. ⌜ (r ≡ fixedAt t o p) × Reach r ⌝ }
+{
+    match spot_at(t, o, p) {
+        Spot::At { point, cuts: _ } => point,
+        Spot::Outside => FixedPoint {
+            x: fixed::BIAS,
+            y: fixed::BIAS,
+        },
+    }
+}
+
+// A command in fixed numbers.
+fn stroke_of(t: Transform, o: Point, k: Command) -> Stroke
+    ensures { λ r. ⌜ (r ≡ strokeOf t o k) × ReachAll r ⌝ }
+{
+    match k {
+        Command::MoveTo(p) => Stroke::Move(fixed_at(t, o, p)),
+        Command::LineTo(p) => Stroke::Line(fixed_at(t, o, p)),
+        Command::QuadTo(c, p) => Stroke::Quad(fixed_at(t, o, c), fixed_at(t, o, p)),
+        Command::CurveTo(c, d, p) => {
+            Stroke::Cubic(fixed_at(t, o, c), fixed_at(t, o, d), fixed_at(t, o, p))
+        }
+        Command::Close => Stroke::Close,
+    }
+}
+
+// Draws the list's strokes into a pool that holds nothing yet.
+pub fn trace_list(ws: &mut [u32], f: Frame, cap: usize, list: &[u8], t: Transform, o: Point) -> Kept
+    requires { ⌜ Ready f cap (now ws) ⌝ }
+    ensures { λ r. ⌜ Traced f cap (now (ws .entry)) (now (ws .exit)) t o (now (list .entry)) r ⌝ }
+{
+    let mut track = raster::begin();
+    let mut at: usize = 0;
+    loop {
+        match list::step_at(list, at) {
+            Step::End => {
+                return raster::finish(ws, f, cap, track);
+            }
+            Step::Refused(_) => {
+                return raster::finish(ws, f, cap, track);
+            }
+            Step::Command(k, next) => {
+                track = raster::trace(ws, f, cap, track, stroke_of(t, o, k));
+                at = next;
+            }
+        }
+    }
+}

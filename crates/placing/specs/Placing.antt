@@ -1,0 +1,90 @@
+-- Document 01, "From floats to 24.8 numbers": bounds and placement of a path list, and "When a label is turned away": "Bounds and placement use
+-- 6 to 12 only, bounds with offset zero".
+use Prim.Native.Nat.{ℕ}
+use mathlib.Core.Bool.{Bool, true, false}
+use mathlib.Core.List.{List, [], _∷_, _++_, map}
+use lib.ListN.{length}
+use lib.Ieee.{ofBits, add, mul, neg}
+use Rattle.float.specs.Round.{floorZ, ceilZ, floorOf}
+use Rattle.geometry.specs.declared.Point.{Point}
+use Rattle.geometry.specs.declared.Transform.{Transform}
+use Rattle.geometry.specs.declared.Bounds.{Bounds}
+use Rattle.geometry.specs.declared.Origin.{Origin}
+use Rattle.geometry.specs.Affine.{zeroF, pointOf, moved, shifted}
+use Rattle.geometry.specs.Box.{boxOf}
+use Rattle.geometry.specs.Placing.{negated, placementOf}
+use Rattle.command.specs.declared.Command.{Command}
+use Rattle.command.specs.Commands.{pointsOf}
+use Rattle.fixed.specs.Fixed.{spotOf}
+use Rattle.path.specs.declared.Verdict.{Verdict}
+use Rattle.path.specs.declared.Verdict.the-variants.{Fine, Faulty}
+use Rattle.path.specs.declared.Refusal.the-variants.{Outside}
+use Rattle.path.specs.Inputs.{inputsOf}
+use Rattle.path.specs.Reading.{Read, refused, path, passed, readList}
+use Rattle.placing.specs.declared.Boxed.{Boxed}
+use Rattle.placing.specs.declared.Boxed.the-variants as boxed
+use Rattle.placing.specs.declared.Laid.{Laid}
+use Rattle.placing.specs.declared.Laid.the-variants as laid
+
+-- ---- 6 to 12: checks 6 and 7, whose index is 0, then the records front to back
+abbrev pub unlessFaulty : Verdict → Read → Read
+unlessFaulty Fine r = r
+unlessFaulty (Faulty w) r = refused w 0
+
+unfoldable pub readChecked : Transform → Point → List ℕ → Read
+unfolding inputsOf readList
+readChecked t o s = unlessFaulty (inputsOf t o (length s)) (readList t o s)
+
+-- ---- every transformed point, control points included, in order
+abbrev pub movedPoints : Transform → Command → List Point
+movedPoints t c = map (moved t) (pointsOf c)
+
+unfoldable pub pathPoints : Transform → List Command → List Point
+unfolding add mul
+pathPoints t [] = []
+pathPoints t (c ∷ cs) = movedPoints t c ++ pathPoints t cs
+
+-- "Bounds cover every transformed point, control points included; ties keep the first", "For an empty list the box is (0,0) to (0,0)"
+unfoldable pub pathBox : Transform → List Command → Bounds
+unfolding pathPoints boxOf
+pathBox t cs = boxOf (pathPoints t cs)
+
+-- ---- bounds. Offset zero says only which points the point rule judges: nothing is added to the box
+abbrev pub nowhere : Point
+nowhere = pointOf zeroF zeroF
+
+abbrev pub boxRead : Transform → Read → Boxed
+boxRead t (refused w i) = boxed.Refused w i
+boxRead t (path cs) = boxed.Box (pathBox t cs)
+
+unfoldable pub boundsOf : Transform → List ℕ → Boxed
+unfolding readChecked pathBox ofBits
+boundsOf t s = boxRead t (readChecked t nowhere s)
+
+-- ---- placement
+-- "Placement adds the offset, floors the minimum, ceils the maximum; the new offset is the negated minimum. Width and height are the differences.
+-- Left is the minimum's x; top is its y, plus the height for a bottom-left origin" (the crate `geometry`)
+abbrev pub laidBetween : Origin → Point → Point → Laid
+laidBetween g a b = laid.At (negated a) (placementOf g a b)
+
+unfoldable pub laidBox : Origin → Point → Bounds → Laid
+unfolding add neg floorZ ceilZ floorOf
+laidBox g o b = laidBetween g (shifted o (b .min)) (shifted o (b .max))
+
+-- "and in placement the offset alone must pass the point rule, else 12 with index 0"
+abbrev pub ifPassed : Bool → Laid → Laid
+ifPassed true a = a
+ifPassed false a = laid.Refused Outside 0
+
+unfoldable pub laidPath : Origin → Transform → Point → List Command → Laid
+unfolding pathBox laidBox spotOf
+laidPath g t o [] = ifPassed (passed (spotOf o)) (laidBox g o (pathBox t []))
+laidPath g t o (c ∷ cs) = laidBox g o (pathBox t (c ∷ cs))
+
+abbrev pub laidRead : Origin → Transform → Point → Read → Laid
+laidRead g t o (refused w i) = laid.Refused w i
+laidRead g t o (path cs) = laidPath g t o cs
+
+unfoldable pub laidOf : Origin → Transform → Point → List ℕ → Laid
+unfolding readChecked laidPath
+laidOf g t o s = laidRead g t o (readChecked t o s)

@@ -1,0 +1,3 @@
+pub mod Quads
+pub mod Stack
+pub mod Table

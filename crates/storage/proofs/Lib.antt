@@ -1,0 +1,7 @@
+pub mod Words
+pub mod Sums
+pub mod Linked
+pub mod Walk
+pub mod Held
+pub mod Stores
+pub mod Pools

@@ -1,0 +1,4 @@
+pub mod Deposits
+pub mod Laws
+pub mod Cells
+pub mod Answers
