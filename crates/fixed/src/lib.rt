@@ -144,8 +144,13 @@ fn mid_cubic(a: FixedPoint, b: FixedPoint, c: FixedPoint, d: FixedPoint) -> Fixe
     }
 }
 
-// Two quads for one: points 0 to 2 and 2 to 4.
-pub fn split_quad(base: [FixedPoint; 3]) -> [FixedPoint; 5]
+// Two quads for one, points 0 to 2 and 2 to 4; two cubics for one, points 0 to 3 and 3 to 6.
+pub type TwoQuads = [FixedPoint; 5];
+
+pub type TwoCubics = [FixedPoint; 7];
+
+// Splits a quad.
+pub fn split_quad(base: [FixedPoint; 3]) -> TwoQuads
     ensures { λ r. ⌜ r ≡ splitQuad base ⌝ }
 {
     let p0 = base[0];
@@ -160,8 +165,8 @@ pub fn split_quad(base: [FixedPoint; 3]) -> [FixedPoint; 5]
     ]
 }
 
-// Two cubics for one: points 0 to 3 and 3 to 6.
-pub fn split_cubic(base: [FixedPoint; 4]) -> [FixedPoint; 7]
+// Splits a cubic.
+pub fn split_cubic(base: [FixedPoint; 4]) -> TwoCubics
     ensures { λ r. ⌜ r ≡ splitCubic base ⌝ }
 {
     let p0 = base[0];

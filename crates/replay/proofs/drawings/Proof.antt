@@ -1,0 +1,68 @@
+-- `replay::drawings` is safe and ends: what is left falls with each turn, and the lent slices keep their lengths. Assumes nothing.
+use borrow.Author.Needs.{needs}
+use mathlib.Core.Path.{_≡_}
+use lib.ListN.{length}
+use Rattle.replay.proofs.drawings.Statement.{statement}
+use Rattle.replay.proofs.drawings.Tie as tie
+
+abbrev Inv-loop : tie.InvT-loop
+Inv-loop s from count mask₀ words₀ at₀ done₀ differ₀ left₀ mask words at done differ left =
+    (length mask ≡ length mask₀) × (length words ≡ length words₀)
+
+abbrev μ-loop : tie.MeasureT-loop
+μ-loop s from count mask₀ words₀ at₀ done₀ differ₀ left₀ mask words at done differ left = left
+
+loop-holds : tie.Need-loop-holds Inv-loop μ-loop
+loop-holds c = search needs
+
+sub-left : tie.Need-sub-left Inv-loop μ-loop
+sub-left c = search needs
+
+replay-drawing-requires : tie.Need-replay-drawing-requires Inv-loop μ-loop
+replay-drawing-requires c κs = search needs
+
+one-unless-requires : tie.Need-one-unless-requires Inv-loop μ-loop
+one-unless-requires c κs = search needs
+
+add-requires : tie.Need-add-requires Inv-loop μ-loop
+add-requires c κs = search needs
+
+after-drawing-requires : tie.Need-after-drawing-requires Inv-loop μ-loop
+after-drawing-requires c κs = search needs
+
+add-requires-2 : tie.Need-add-requires-2 Inv-loop μ-loop
+add-requires-2 c κs = search needs
+
+loop-less : tie.Need-loop-less Inv-loop μ-loop
+loop-less c = search needs
+
+loop-again : tie.Need-loop-again Inv-loop μ-loop
+loop-again c = search needs
+
+same-length : tie.Need-same-length Inv-loop μ-loop
+same-length c = search needs
+
+same-length-2 : tie.Need-same-length-2 Inv-loop μ-loop
+same-length-2 c = search needs
+
+returns : tie.Need-returns Inv-loop μ-loop
+returns c = search needs
+
+pub drawings-spec : {M : Type 1} → statement M
+drawings-spec =
+    tie.close
+    (tie.spec
+    Inv-loop
+    μ-loop
+    loop-holds
+    sub-left
+    replay-drawing-requires
+    one-unless-requires
+    add-requires
+    after-drawing-requires
+    add-requires-2
+    loop-less
+    loop-again
+    same-length
+    same-length-2
+    returns)
