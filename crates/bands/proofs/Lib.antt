@@ -1,8 +1,5 @@
-pub mod Tests
-pub mod Economy
-pub mod Curves
-pub mod Inked
-pub mod Parts
+pub mod Cells
 pub mod Rows
-pub mod Draws
-pub mod Bands
+pub mod Counting
+pub mod Painting
+pub mod Whole

@@ -1,3 +1,2 @@
-pub mod Ink
-pub mod Parts
-pub mod Bands
+pub mod InBands
+pub mod Steps

@@ -1,5 +1,14 @@
 pub mod WordsAfter
 pub mod OldWords
+pub mod Painted
 pub mod OldMask
 pub mod OneOutcome
 pub mod OneLeaf
+pub mod Tests
+pub mod Economy
+pub mod Curves
+pub mod Inked
+pub mod Parts
+pub mod Rows
+pub mod Draws
+pub mod Bands

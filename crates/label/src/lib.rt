@@ -1,5 +1,5 @@
-// The public face: a label drawn from a path list into lent memory, and the bounds and the placement of a list.
-// Each call answers whatever it is lent; a refusal leaves the mask as it was.
+// The public face: a label drawn from a path list into lent memory.
+// `draw` answers whatever it is lent; a refusal leaves the mask as it was.
 use geometry::Point;
 use geometry::Transform;
 use path::Judged;
@@ -113,7 +113,8 @@ fn check_sizes(l: Label, mask: usize, words: usize) -> Verdict
     Verdict::Fine
 }
 
-fn check(l: Label, list: usize, mask: usize, words: usize) -> Verdict
+// Checks 1 to 7.
+pub fn check(l: Label, list: usize, mask: usize, words: usize) -> Verdict
     ensures { λ r. ⌜ r ≡ checkedOf l list mask words ⌝ }
 {
     match check_sizes(l, mask, words) {
@@ -147,7 +148,7 @@ fn frame_of(l: Label) -> Frame
 }
 
 // The list's strokes drawn into the workspace, whatever it held.
-fn pour(list: &[u8], l: Label, words: &mut [u32]) -> Kept
+pub fn pour(list: &[u8], l: Label, words: &mut [u32]) -> Kept
     requires { ⌜ Sized l ⌝ ∗ ⌜ rows l ≤ length (now words) ⌝ }
     ensures { λ r. ⌜ Poured l (now (list .entry)) (now (words .entry)) (now (words .exit)) r ⌝ }
 {

@@ -16,9 +16,9 @@ use Rattle.quad.proofs.Points as quads
 use Rattle.cubic.specs.Cubics.{cubicPoints, cubicMarks}
 use Rattle.cubic.specs.Depth.{Each, none, more, endOf}
 use Rattle.cubic.proofs.Points as cubics
-use Rattle.bands.specs.Ink.{alongAll}
-use Rattle.bands.proofs.Tests.{never, both-true}
-use Rattle.bands.proofs.Economy.{Economy, economy-all, economy-join, economy-line}
+use Rattle.claims.specs.Ink.{alongAll}
+use Rattle.claims.proofs.Tests.{never, both-true}
+use Rattle.claims.proofs.Economy.{Economy, economy-all, economy-join, economy-line}
 
 each-of : {P : FixedPoint → Type 0} (ps : List FixedPoint) → quads.Each P ps → Each P ps
 each-of [] h = none

@@ -1,11 +1,10 @@
--- What is known of a drawing that was accepted, and what suffices for it; and what byte a painted mask has for a pixel.
-use Prim.Native.Nat.{ℕ, _+_, _*_, _-_, _/_, _%_, _≤_, _<_}
+-- What is known of a drawing that was accepted, and what suffices for it.
+use Prim.Native.Nat.{ℕ, _≤_, _<_}
 use mathlib.Core.Path.{_≡_, refl, sym, ap, _∙_}
 use mathlib.Core.Bool.{Bool, true, false}
 use mathlib.Core.List.{List, [], _∷_}
 use native.Mathlib.Omega.{arith}
-use native.Mathlib.Nat.{mul-add-div, div-eq-of-lt, mul-add-mod-self-left, mod-eq-of-lt, mul-le-mul-left}
-use lib.ListN.{length, getD}
+use lib.ListN.{length}
 use lib.Dec.{ltb}
 use borrow.Author.Tests.{lt-ltb, le-ltb, ltb-true, ltb-false}
 use Rattle.storage.specs.Deposits.{Deposit, distinct}
@@ -16,11 +15,7 @@ use Rattle.fixed.specs.declared.Spot.the-variants as spot
 use Rattle.command.specs.declared.Command.{Command}
 use Rattle.command.specs.declared.Command.the-variants.{MoveTo, LineTo, QuadTo, CurveTo, Close}
 use Rattle.line.specs.Range.{Reach}
-use Rattle.raster.specs.Path.{depositsOf}
 use Rattle.raster.specs.Tracing.{ReachAll}
-use Rattle.sweep.specs.Masks.{rowAt}
-use Rattle.sweep.specs.Pixels.{pixel}
-use Rattle.sweep.proofs.Mask.{mask-at}
 use Rattle.path.specs.declared.Verdict.{Verdict}
 use Rattle.path.specs.declared.Verdict.the-variants.{Fine, Faulty}
 use Rattle.path.specs.Reading.{spotAt, Read, refused, path, readList}
@@ -30,9 +25,10 @@ use Rattle.label.specs.declared.Label.{Label}
 use Rattle.label.specs.declared.Answer.the-variants.{Drawn, Refused}
 use Rattle.path.specs.declared.Refusal.{Refusal}
 use Rattle.path.specs.declared.Refusal.the-variants.{Full}
-use Rattle.label.specs.Checks.{rows, checkedOf}
-use Rattle.label.specs.Draw.{Outcome, outcome, poolOf, frameOf, paintedOf, wiped, inked, drawnFrom, checkedDraw, drawOf}
-use Rattle.bands.specs.Ink.{AllReach}
+use Rattle.label.specs.Checks.{checkedOf}
+use Rattle.label.specs.Draw.{Outcome, outcome, poolOf, paintedOf, wiped, inked, drawnFrom, checkedDraw, drawOf}
+use Rattle.claims.specs.Ink.{AllReach}
+use Rattle.claims.specs.Bands.{logOf}
 
 -- ---- the strokes of a list are within reach
 module _ (t : Transform) (o : Point) where
@@ -57,9 +53,6 @@ module _ (t : Transform) (o : Point) where
   strokes-near (k ∷ cs) = (stroke-near k, strokes-near cs)
 
 -- ---- accepted
-abbrev pub logOf : Label → List Command → List Deposit
-logOf l cs = depositsOf (frameOf l) (strokesOf (l .transform) (l .offset) cs)
-
 pub record Accepted (l : Label) (s : List ℕ) (mask words records cells : ℕ) : Type 0 where
   pub cs : List Command
   pub fine : checkedOf l (length s) mask words ≡ Fine
@@ -130,36 +123,3 @@ module _ (l : Label) (s mask words : List ℕ) where
 
     pub accepted : Accepted l s (length mask) (length words) records cells
     accepted = of-check (checkedOf l (length s) (length mask) (length words)) refl
-
--- ---- the byte of a pixel
-line-of : (pitch l x : ℕ) → x < pitch → (pitch * l + x) / pitch ≡ l
-line-of pitch l x h = let p : 0 < pitch = omega arith in mul-add-div p l x ∙ ap (λ (n : ℕ). l + n) (div-eq-of-lt h) ∙ omega arith
-
-column-of : (pitch l x : ℕ) → x < pitch → (pitch * l + x) % pitch ≡ x
-column-of pitch l x h = mul-add-mod-self-left pitch l x ∙ mod-eq-of-lt h
-
--- the row that stands on a line, and the line on which a row stands, are one rule
-back : (up : Bool) (n r : ℕ) → r < n → rowAt up n (rowAt up n r) ≡ r
-back true n r h = omega arith
-back false n r h = refl
-
-on-line : (up : Bool) (n r : ℕ) → r < n → rowAt up n r < n
-on-line true n r h = omega arith
-on-line false n r h = h
-
-module _ (l : Label) (log : List Deposit) (mask : List ℕ) (pitched : l .width ≤ l .pitch) (lines : 0 < rows l → l .pitch * (rows l - 1) + l .width ≤ length mask) where
-  painted-line : (m x : ℕ) → m < rows l → x < l .width → getD (paintedOf l log mask) (l .pitch * m + x) 0 ≡ pixel (l .fill) log (rowAt (l .up) (rows l) m) x
-  unfolding paintedOf
-  painted-line m x h g =
-      let most : l .pitch * m ≤ l .pitch * (rows l - 1) = mul-le-mul-left (l .pitch) (omega arith) in
-      let some : 0 < rows l = omega arith in
-      let long = lines some in
-      let e : 0 + (l .pitch * m + x) ≡ l .pitch * m + x = omega arith in
-      let slim : x < l .pitch = omega arith in
-      mask-at (l .fill) log (rows l) (l .width) (l .up) (l .pitch) 0 mask (l .pitch * m + x) (omega arith)
-      ∙ rw (e, line-of (l .pitch) m x slim, column-of (l .pitch) m x slim, lt-ltb m (rows l) h, lt-ltb x (l .width) g)
-
-  pub painted-row : (r x : ℕ) → r < rows l → x < l .width → getD (paintedOf l log mask) (l .pitch * rowAt (l .up) (rows l) r + x) 0 ≡ pixel (l .fill) log r x
-  painted-row r x h g =
-      painted-line (rowAt (l .up) (rows l) r) x (on-line (l .up) (rows l) r h) g
-      ∙ ap (λ (n : ℕ). pixel (l .fill) log n x) (back (l .up) (rows l) r h)

@@ -18,7 +18,7 @@ use Rattle.line.specs.Trail.{StandsIn, Enters, none, gives, Outside}
 use Rattle.line.proofs.Tests.{and-false}
 use Rattle.line.proofs.Whole.{line-ends, line-none, line-whole, line-outside, line-skipped}
 use Rattle.line.proofs.Unseen.{StandsOutside, unseen-left, unseen-after}
-use Rattle.bands.specs.Ink.{leftBy}
+use Rattle.claims.specs.Ink.{leftBy}
 
 pub by-append : (s : Stand) (xs ys : List Mark) → leftBy s (xs ++ ys) ≡ left s xs ++ leftBy (after s xs) ys
 unfolding leftBy

@@ -1,14 +1,14 @@
 -- Parts of a log: what is known in them, how many places they have, and what they sum to.
 use Prim.Native.Nat.{ℕ, _+_, _-_, _≤_, _<_}
-use mathlib.Core.Path.{_≡_, refl, sym, _∙_}
+use mathlib.Core.Path.{_≡_, refl, sym, ap, _∙_}
 use mathlib.Core.Bool.{Bool, true, false, not, _&&_, _||_}
 use mathlib.Core.List.{List, [], _∷_}
 use native.Mathlib.Omega.{arith}
 use lib.Dec.{eqb, leb, ltb}
 use borrow.Author.Tests.{leb-true, ltb-true, ltb-false, le-leb, lt-ltb, eqb-true, eq-eqb, ne-eqb}
 use Rattle.storage.specs.Deposits.{Deposit, on, known, distinct, total}
-use Rattle.bands.proofs.Tests.{never, same-test, both-true}
-use Rattle.bands.specs.Parts.{among, from, part}
+use Rattle.claims.proofs.Tests.{never, same-test, both-true}
+use Rattle.claims.specs.Parts.{among, from, part}
 
 -- ---- tests of places
 pub record Among (lo hi p : ℕ) : Type 0 where
@@ -45,6 +45,31 @@ module _ (lo hi : ℕ) (d : Deposit) (ds : List Deposit) where
 pub part-none : (lo hi : ℕ) → part lo hi [] ≡ []
 unfolding part
 part-none lo hi = refl
+
+-- ---- a part of a part
+from-from : (lo a : ℕ) (d : Deposit) → from a (from lo d) ≡ from (lo + a) d
+from-from lo a d = let e : d .place - lo - a ≡ d .place - (lo + a) = omega arith in ap (λ (p : ℕ). record { place = p; cover = d .cover; area = d .area }) e
+
+module _ (lo hi a b : ℕ) (inner : lo + b ≤ hi) where
+  pub part-part : (log : List Deposit) → part a b (part lo hi log) ≡ part (lo + a) (lo + b) log
+  part-part [] = rw (part-none lo hi, part-none a b) (sym (part-none (lo + a) (lo + b)))
+  part-part (d ∷ ds) = go (part-part ds) (among lo hi (d .place)) (among a b (d .place - lo)) refl refl
+    where
+      go : part a b (part lo hi ds) ≡ part (lo + a) (lo + b) ds → (t u : Bool) → among lo hi (d .place) ≡ t → among a b (d .place - lo) ≡ u
+          → part a b (part lo hi (d ∷ ds)) ≡ part (lo + a) (lo + b) (d ∷ ds)
+      go rest true true e g =
+          let h = is-among lo hi (d .place) e in
+          let k = is-among a b (d .place - lo) g in
+          let m = among-is (lo + a) (lo + b) (d .place) (record { low = omega (arith, h .low, k .low); high = omega (arith, h .low, k .high) }) in
+          rw (part-in lo hi d ds e, part-in a b (from lo d) (part lo hi ds) g, part-in (lo + a) (lo + b) d ds m, rest, from-from lo a d)
+      go rest true false e g =
+          let n = not-among a b (d .place - lo) g in
+          let m = among-not (lo + a) (lo + b) (d .place) (λ k. n (record { low = omega (arith, k .low); high = omega (arith, k .low, k .high) })) in
+          rw (part-in lo hi d ds e, part-out a b (from lo d) (part lo hi ds) g, part-out (lo + a) (lo + b) d ds m) rest
+      go rest false u e g =
+          let n = not-among lo hi (d .place) e in
+          let m = among-not (lo + a) (lo + b) (d .place) (λ k. n (record { low = omega (arith, k .low); high = omega (arith, k .high) })) in
+          rw (part-out lo hi d ds e, part-out (lo + a) (lo + b) d ds m) rest
 
 -- ---- what is known
 known-one : (d : Deposit) (ds : List Deposit) (p : ℕ) → known (d ∷ ds) p ≡ (eqb p (d .place) || known ds p)

@@ -12,9 +12,9 @@ use Rattle.raster.specs.Path.{corner, strokeMarks, pointAfter, startAfter, mark
 use Rattle.raster.specs.Tracing.{ReachAll}
 use Rattle.raster.proofs.Told.{marks-end, marks-stroke, reach-point, reach-start}
 use Rattle.path.proofs.Points.{corner-near}
-use Rattle.bands.specs.Ink.{strokeAll, inkFrom, leftBy, ink, AllReach}
-use Rattle.bands.proofs.Economy.{Follows, Economy, behind, economy-all, economy-join, economy-line}
-use Rattle.bands.proofs.Curves.{economy-quad, economy-cubic}
+use Rattle.claims.specs.Ink.{strokeAll, inkFrom, leftBy, ink, AllReach}
+use Rattle.claims.proofs.Economy.{Follows, Economy, behind, economy-all, economy-join, economy-line}
+use Rattle.claims.proofs.Curves.{economy-quad, economy-cubic}
 
 module _ (f : Frame) where
   economy-stroke : (a s : FixedPoint) (k : Stroke) → Reach a → Reach s → ReachAll k → Economy f a (pointAfter s k) (strokeMarks f a s k) (strokeAll a s k)

@@ -14,6 +14,7 @@ use Rattle.sweep.specs.Masks.{rowAt}
 use Rattle.sweep.specs.Pixels.{pixel}
 use Rattle.path.specs.declared.Verdict.the-variants.{Fine}
 use Rattle.path.specs.Inputs.{inputsOf}
+use Rattle.path.specs.Reading.{path, readList}
 use Rattle.path.specs.Strokes.{strokesOf}
 use Rattle.label.specs.declared.Label.{Label}
 use Rattle.label.specs.declared.Answer.the-variants.{Drawn}
@@ -21,13 +22,15 @@ use Rattle.label.specs.Checks.{rows, sizesOf, checkedOf}
 use Rattle.label.specs.Draw.{Outcome, outcome, poolOf, paintedOf, wiped, drawOf}
 use Rattle.label.specs.Inking.{Sized, Lent}
 use Rattle.label.proofs.Sizes.{Fitting, fitting, all-fit, sizes-then}
-use Rattle.bands.specs.Ink.{ink}
-use Rattle.bands.specs.Parts.{band, frame}
-use Rattle.bands.specs.Bands.{bandOf, wholeOf, Long, Agrees, Piece, Cuts, done, cut, cellsOf, cellsOver}
-use Rattle.bands.proofs.Inked.{ink-seen}
-use Rattle.bands.proofs.Parts.{distinct-part, distinct-join}
-use Rattle.bands.proofs.Rows.{seen-band, pixel-band}
-use Rattle.bands.proofs.Draws.{strokes-near, logOf, Accepted, draws, accepted, painted-row}
+use Rattle.claims.specs.Ink.{ink}
+use Rattle.claims.specs.Parts.{band, frame}
+use Rattle.claims.specs.OldContents.{spotOf}
+use Rattle.claims.specs.Bands.{bandOf, wholeOf, laid, logOf, byteFor, Roomy, Agrees, Piece, pieceOf, Cuts, done, cut, cellsOf, cellsOver}
+use Rattle.claims.proofs.Inked.{ink-seen}
+use Rattle.claims.proofs.Parts.{distinct-part, distinct-join}
+use Rattle.claims.proofs.Rows.{seen-band, pixel-band}
+use Rattle.claims.proofs.Painted.{painted-row}
+use Rattle.claims.proofs.Draws.{strokes-near, Accepted, draws, accepted}
 
 -- ---- checks 1 to 5 refuse nothing that fits
 sizes-fine : (l : Label) (mask words : ℕ) → Sized l → Lent l mask words → sizesOf l mask words ≡ Fine
@@ -54,6 +57,9 @@ answer-of e = ap (λ (o : Outcome). o .answer) e
 mask-of : {o p : Outcome} (i : ℕ) → o ≡ p → getD (o .mask) i 0 ≡ getD (p .mask) i 0
 mask-of i e = ap (λ (o : Outcome). getD (o .mask) i 0) e
 
+one-path : {cs cs′ : List Command} → path cs ≡ path cs′ → cs ≡ cs′
+one-path e = cc
+
 -- ---- a whole label that is accepted
 module _ (l : Label) (s mask words : List ℕ) (records cells : ℕ) (h : drawOf (wholeOf l) s mask words .answer ≡ Drawn records cells) where
   was : Accepted (wholeOf l) s (length mask) (length words) records cells
@@ -74,10 +80,15 @@ module _ (l : Label) (s mask words : List ℕ) (records cells : ℕ) (h : drawOf
   whole-drawn : drawOf (wholeOf l) s mask words ≡ outcome (Drawn (length (was .cs)) (distinct log)) (paintedOf (wholeOf l) log mask) (wiped words)
   whole-drawn = draws (wholeOf l) s mask words (was .cs) (was .fine) (was .read) (was .room)
 
-  -- ---- a band of it, with a mask that is long enough and at least as many words, of any contents
-  module _ (first end : ℕ) (ordered : first ≤ end) (low : end ≤ l .height) (own-mask own-words : List ℕ) (long : Long l (end - first) own-mask) (many : length words ≤ length own-words) where
+  -- the log of whatever path the list is
+  same-log : (cs : List Command) → readList (l .transform) (l .offset) s ≡ path cs → log ≡ logOf (wholeOf l) cs
+  same-log cs e = ap (logOf (wholeOf l)) (one-path (sym (was .read) ∙ e))
+
+  -- ---- a band of it, laid out in any way, with a mask that is long enough and at least as many words, of any contents
+  module _ (up : Bool) (pitch first end : ℕ) (ordered : first ≤ end) (low : end ≤ l .height) (own-mask own-words : List ℕ)
+      (roomy : Roomy (bandOf (laid l up pitch) first end) own-mask) (many : length words ≤ length own-words) where
     abbrev own : Label
-    own = bandOf l first end
+    own = bandOf (laid l up pitch) first end
 
     abbrev own-log : List Deposit
     own-log = logOf own (was .cs)
@@ -86,10 +97,10 @@ module _ (l : Label) (s mask words : List ℕ) (records cells : ℕ) (h : drawOf
     log-is = log-band l narrow (was .cs) first end low
 
     own-sized : Sized own
-    own-sized = record { narrow = fit .sized .narrow; low = fit .sized .low; ordered = ordered; inside = low; pitched = fit .sized .pitched; near = fit .sized .near }
+    own-sized = record { narrow = fit .sized .narrow; low = fit .sized .low; ordered = ordered; inside = low; pitched = roomy .pitched; near = roomy .near }
 
     own-lent : Lent own (length own-mask) (length own-words)
-    own-lent = record { lines = long .lines; heads = omega (arith, fit .lent .heads) }
+    own-lent = record { lines = roomy .lines; heads = omega (arith, fit .lent .heads) }
 
     own-fine : checkedOf own (length s) (length own-mask) (length own-words) ≡ Fine
     own-fine = sym (sizes-then own (length s) (length own-mask) (length own-words) (sizes-fine own (length own-mask) (length own-words) own-sized own-lent)) ∙ inputs-fine
@@ -111,27 +122,36 @@ module _ (l : Label) (s mask words : List ℕ) (records cells : ℕ) (h : drawOf
     own-drawn : drawOf own s own-mask own-words ≡ outcome (Drawn (length (was .cs)) (distinct own-log)) (paintedOf own own-log own-mask) (wiped own-words)
     own-drawn = draws own s own-mask own-words (was .cs) own-fine (was .read) own-room
 
-    own-pixel : (y x : ℕ) → first ≤ y → y < end → x < l .width → pixel (l .fill) own-log (y - first) x ≡ pixel (l .fill) log (y - 0) x
+    own-pixel : (y x : ℕ) → first ≤ y → y < end → x < l .width → pixel (l .fill) own-log (y - first) x ≡ pixel (l .fill) log y x
     own-pixel y x p q r =
-        let e : first + (y - first) ≡ y - 0 = omega arith in
+        let e : first + (y - first) ≡ y = omega arith in
         ap (λ (ds : List Deposit). pixel (l .fill) ds (y - first) x) log-is
         ∙ pixel-band first end (y - first) x (omega arith) (omega (arith, narrow)) log (l .fill)
         ∙ ap (λ (n : ℕ). pixel (l .fill) log n x) e
 
-    pub bands : Agrees l first end records (drawOf (bandOf l first end) s own-mask own-words) (drawOf (wholeOf l) s mask words)
+    own-byte : (y x : ℕ) → first ≤ y → y < end → x < l .width → byteFor own y x (drawOf own s own-mask own-words .mask) ≡ pixel (l .fill) log y x
+    own-byte y x p q r =
+        mask-of (spotOf own (rowAt up (end - first) (y - first)) x) own-drawn
+        ∙ painted-row own own-log own-mask (roomy .pitched) (roomy .lines) (y - first) x (omega arith) r
+        ∙ own-pixel y x p q r
+
+    whole-byte : (y x : ℕ) → y < l .height → x < l .width → byteFor (wholeOf l) y x (drawOf (wholeOf l) s mask words .mask) ≡ pixel (l .fill) log y x
+    whole-byte y x q r =
+        let e : y - 0 ≡ y = omega arith in
+        mask-of (spotOf (wholeOf l) (rowAt (l .up) (l .height - 0) (y - 0)) x) whole-drawn
+        ∙ painted-row (wholeOf l) log mask (fit .sized .pitched) (fit .lent .lines) (y - 0) x (omega arith) r
+        ∙ ap (λ (n : ℕ). pixel (l .fill) log n x) e
+
+    pub bands : Agrees l (bandOf (laid l up pitch) first end) s records (drawOf (bandOf (laid l up pitch) first end) s own-mask own-words) (drawOf (wholeOf l) s mask words)
     bands =
         record {
           cells = distinct own-log;
           accepted = rw (was .counted) at (answer-of own-drawn);
-          pixels = λ y x p q r.
-              mask-of (l .pitch * rowAt (l .up) (end - first) (y - first) + x) own-drawn
-              ∙ painted-row own own-log own-mask (fit .sized .pitched) (long .lines) (y - first) x (omega arith) r
-              ∙ own-pixel y x p q r
-              ∙ sym (painted-row (wholeOf l) log mask (fit .sized .pitched) (fit .lent .lines) (y - 0) x (omega arith) r)
-              ∙ sym (mask-of (l .pitch * rowAt (l .up) (l .height - 0) (y - 0) + x) whole-drawn);
+          pixels = λ y x p q r. own-byte y x p q r ∙ sym (whole-byte y x (omega arith) r);
+          ruled = λ cs e y x p q r. own-byte y x p q r ∙ ap (λ (ds : List Deposit). pixel (l .fill) ds y x) (same-log cs e);
         }
 
-    own-cells : cellsOf (drawOf (bandOf l first end) s own-mask own-words .answer) ≡ distinct (band first end log)
+    own-cells : cellsOf (drawOf (bandOf (laid l up pitch) first end) s own-mask own-words .answer) ≡ distinct (band first end log)
     own-cells = ap cellsOf (answer-of own-drawn) ∙ ap distinct log-is
 
   -- ---- bands from cut to cut
@@ -143,7 +163,7 @@ module _ (l : Label) (s mask words : List ℕ) (records cells : ℕ) (h : drawOf
   unfolding cellsOver
   over-none from = refl
 
-  over-one : (from : ℕ) (p : Piece) (ps : List Piece) → cellsOver l s from (p ∷ ps) ≡ cellsOf (drawOf (bandOf l from (p .end)) s (p .mask) (p .words) .answer) + cellsOver l s (p .end) ps
+  over-one : (from : ℕ) (p : Piece) (ps : List Piece) → cellsOver l s from (p ∷ ps) ≡ cellsOf (drawOf (pieceOf l from p) s (p .mask) (p .words) .answer) + cellsOver l s (p .end) ps
   unfolding cellsOver
   over-one from p ps = refl
 
@@ -155,7 +175,7 @@ module _ (l : Label) (s mask words : List ℕ) (records cells : ℕ) (h : drawOf
   from-cut {from} (cut {p = p} {ps} a b c k) =
       let m = to-height k in
       let one = over-one from p ps in
-      let first = own-cells from (p .end) a m (p .mask) (p .words) b c in
+      let first = own-cells (p .up) (p .pitch) from (p .end) a m (p .mask) (p .words) b c in
       let rest = from-cut k in
       let join = distinct-join (perRow * from) (perRow * p .end) (perRow * l .height) (omega arith) (omega arith) log in
       one ∙ summed first rest join
