@@ -3,3 +3,4 @@ pub mod Rows
 pub mod Counting
 pub mod Painting
 pub mod Whole
+pub mod OneOutcome

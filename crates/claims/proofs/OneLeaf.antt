@@ -1,4 +1,4 @@
--- No two answers satisfy a promise: points, transforms, bounds and placements, commands, floats and fixed numbers.
+-- No two answers satisfy a promise: points, transforms, bounds and placements, commands, floats, fixed numbers and bytes.
 use mathlib.Core.Path.{sym, _∙_}
 use Rattle.claims.proofs.OneOutcome.{OneAnswer}
 use Rattle.geometry.proofs.Point.new.Kinds as point-new-kinds
@@ -73,6 +73,8 @@ use Rattle.fixed.proofs.split_quad.Kinds as split-quad-kinds
 use Rattle.fixed.proofs.split_quad.Reads as split-quad-reads
 use Rattle.fixed.proofs.split_cubic.Kinds as split-cubic-kinds
 use Rattle.fixed.proofs.split_cubic.Reads as split-cubic-reads
+use Rattle.sweep.proofs.coverage.Kinds as coverage-kinds
+use Rattle.sweep.proofs.coverage.Reads as coverage-reads
 
 -- ---- geometry
 pub point-new : OneAnswer 0 point-new-kinds.ps point-new-kinds.r point-new-reads.Learnt
@@ -185,3 +187,7 @@ split-quad κs a z z′ e e′ p q = p ∙ sym q
 
 pub split-cubic : OneAnswer 0 split-cubic-kinds.ps split-cubic-kinds.r split-cubic-reads.Learnt
 split-cubic κs a z z′ e e′ p q = p ∙ sym q
+
+-- ---- sweep
+pub coverage : OneAnswer 0 coverage-kinds.ps coverage-kinds.r coverage-reads.Learnt
+coverage κs a z z′ e e′ p q = p ∙ sym q

@@ -10,6 +10,8 @@ use borrow.Fn.Kinds.{PK, RK, Dens, resT, endedOf, Out}
 use Rattle.label.specs.Draw.{Outcome}
 use Rattle.label.proofs.draw.Kinds as draw-kinds
 use Rattle.label.proofs.draw.Reads as draw-reads
+use Rattle.label.proofs.check.Kinds as check-kinds
+use Rattle.label.proofs.check.Reads as check-reads
 use Rattle.label.proofs.numbers_of.Kinds as numbers-of-kinds
 use Rattle.label.proofs.numbers_of.Reads as numbers-of-reads
 use Rattle.placing.proofs.bounds.Kinds as bounds-kinds
@@ -20,6 +22,8 @@ use Rattle.placing.proofs.box_numbers.Kinds as box-numbers-kinds
 use Rattle.placing.proofs.box_numbers.Reads as box-numbers-reads
 use Rattle.placing.proofs.place_numbers.Kinds as place-numbers-kinds
 use Rattle.placing.proofs.place_numbers.Reads as place-numbers-reads
+use Rattle.path.proofs.check_inputs.Kinds as check-inputs-kinds
+use Rattle.path.proofs.check_inputs.Reads as check-inputs-reads
 use Rattle.path.proofs.number_of.Kinds as path-number-of-kinds
 use Rattle.path.proofs.number_of.Reads as path-number-of-reads
 use Rattle.list.proofs.number_of.Kinds as list-number-of-kinds
@@ -40,6 +44,9 @@ draw κs a z z′ e e′ p q =
     (ap (λ (o : Outcome). o .answer) same, ap (λ (o : Outcome). o .mask) same, ap (λ (o : Outcome). o .words) same)
 
 -- ---- label
+pub check : OneAnswer 0 check-kinds.ps check-kinds.r check-reads.Learnt
+check κs a z z′ e e′ p q = p ∙ sym q
+
 pub numbers-of : OneAnswer 0 numbers-of-kinds.ps numbers-of-kinds.r numbers-of-reads.Learnt
 numbers-of κs a z z′ e e′ p q = p ∙ sym q
 
@@ -57,6 +64,9 @@ pub place-numbers : OneAnswer 0 place-numbers-kinds.ps place-numbers-kinds.r pla
 place-numbers κs a z z′ e e′ p q = p ∙ sym q
 
 -- ---- path
+pub check-inputs : OneAnswer 0 check-inputs-kinds.ps check-inputs-kinds.r check-inputs-reads.Learnt
+check-inputs κs a z z′ e e′ p q = p ∙ sym q
+
 pub path-number-of : OneAnswer 0 path-number-of-kinds.ps path-number-of-kinds.r path-number-of-reads.Learnt
 path-number-of κs a z z′ e e′ p q = p ∙ sym q
 
