@@ -7,9 +7,10 @@ use Rattle.storage.specs.Deposits.{perRow, Deposit, distinct}
 use Rattle.command.specs.declared.Command.{Command}
 use Rattle.sweep.specs.Pixels.{pixel}
 use Rattle.label.specs.declared.Label.{Label}
+use Rattle.label.specs.Draw.{logOf}
 use Rattle.label.specs.Inking.{Sized}
 use Rattle.claims.specs.Parts.{band}
-use Rattle.claims.specs.Bands.{bandOf, wholeOf, logOf}
+use Rattle.claims.specs.Bands.{bandOf, wholeOf}
 use Rattle.claims.proofs.Parts.{part-part, distinct-join}
 use Rattle.claims.proofs.Rows.{pixel-band}
 use Rattle.claims.proofs.Bands.{log-band}

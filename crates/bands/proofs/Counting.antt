@@ -1,12 +1,11 @@
 -- The bands counted one after the other: those before the row `at` fit and have so many cells.
 use Prim.Native.Nat.{ℕ, zero, suc, _+_, _*_, _-_, _≤_, _<_, min}
 use mathlib.Core.Path.{_≡_, refl, sym, ap, _∙_}
-use mathlib.Core.Bool.{Bool, true, false, _&&_}
+use mathlib.Core.Bool.{true, false}
 use mathlib.Core.List.{List}
 use native.Mathlib.Omega.{arith}
 use lib.ListN.{length}
-use lib.Dec.{leb, ltb}
-use borrow.Author.Tests.{lt-ltb, le-ltb, le-leb, lt-leb, leb-true}
+use borrow.Author.Tests.{lt-ltb, le-ltb}
 use Rattle.storage.specs.declared.Kept.{Kept}
 use Rattle.storage.specs.declared.Kept.the-variants.{Cells, Full}
 use Rattle.storage.specs.Deposits.{distinct}
@@ -14,14 +13,14 @@ use Rattle.storage.specs.Cells.{Holds}
 use Rattle.command.specs.declared.Command.{Command}
 use Rattle.label.specs.declared.Label.{Label}
 use Rattle.label.specs.Checks.{rows}
-use Rattle.label.specs.Draw.{poolOf}
+use Rattle.label.specs.Draw.{poolOf, logOf, tooMany}
 use Rattle.label.specs.Inking.{Sized, Poured}
 use Rattle.claims.specs.Parts.{band}
-use Rattle.claims.specs.Bands.{bandOf, logOf}
-use Rattle.bands.specs.InBands.{bandEnd, fits, eachFits, allFit}
+use Rattle.claims.specs.Bands.{bandOf}
+use Rattle.bands.specs.InBands.{bandEnd, tooManyFrom, tooManyInBand}
 use Rattle.bands.specs.Steps.{Reads, Counted}
 use Rattle.bands.proofs.Cells.{more-cells, no-cells, all-cells}
-use Rattle.bands.proofs.Rows.{each-none, each-one, band-sized}
+use Rattle.bands.proofs.Rows.{none-behind, one-band}
 
 pub record Counting (l : Label) (step : ℕ) (s : List ℕ) (words at total : ℕ) : Type 0 where
   pub from : l .first ≤ at
@@ -29,7 +28,7 @@ pub record Counting (l : Label) (step : ℕ) (s : List ℕ) (words at total : �
   pub few : total ≤ 16384 * (at - l .first)
   pub fuel : ℕ
   pub enough : l .end - at ≤ fuel
-  pub same : (cs : List Command) → Reads l s cs → allFit step l words cs ≡ eachFits fuel step l words cs at
+  pub same : (cs : List Command) → Reads l s cs → tooManyInBand step l words cs ≡ tooManyFrom fuel step l words cs at
   pub counted : (cs : List Command) → Reads l s cs → total ≡ distinct (band 0 (at - l .first) (logOf l cs))
 
 module _ (l : Label) (z : Sized l) (step : ℕ) (s : List ℕ) (words : ℕ) where
@@ -53,11 +52,11 @@ module _ (l : Label) (z : Sized l) (step : ℕ) (s : List ℕ) (words : ℕ) whe
 
     module _ (before after : List ℕ) (k : Kept) (long : length before ≡ words) (P : Poured own s before after k) where
       -- a band that does not fit
-      pub counting-full : k ≡ Full → (cs : List Command) → Reads l s cs → allFit step l words cs ≡ false
+      pub counting-full : k ≡ Full → (cs : List Command) → Reads l s cs → tooManyInBand step l words cs ≡ true
       counting-full f cs e =
           let more : poolOf own (length before) < distinct (logOf own cs) = rw f at (P .stored cs e) in
-          let no : fits own words cs ≡ false = lt-leb _ _ (rw long at more) in
-          C .same cs e ∙ each-one l step words cs at inner (C .fuel) (omega (arith, C .enough)) ∙ rw no
+          let yes : tooMany own words cs ≡ true = lt-ltb _ _ (rw long at more) in
+          C .same cs e ∙ one-band l step words cs at inner (C .fuel) (omega (arith, C .enough)) ∙ rw yes
 
       -- a band that fits
       module _ (n : ℕ) (f : k ≡ Cells n) where
@@ -70,8 +69,8 @@ module _ (l : Label) (z : Sized l) (step : ℕ) (s : List ℕ) (words : ℕ) whe
         small : n ≤ poolOf own words
         small = rw (f, long) at (P .within)
 
-        it-fits : (cs : List Command) → Reads l s cs → fits own words cs ≡ true
-        it-fits cs e = let c = count cs e in le-leb _ _ (rw c at small)
+        it-fits : (cs : List Command) → Reads l s cs → tooMany own words cs ≡ false
+        it-fits cs e = let c = count cs e in le-ltb _ _ (rw c at small)
 
         pub counting-more : Counting l step s words (bandEnd step at (l .end)) (total + n)
         counting-more = record {
@@ -80,7 +79,7 @@ module _ (l : Label) (z : Sized l) (step : ℕ) (s : List ℕ) (words : ℕ) whe
           few = omega (arith, C .few, C .from, small);
           fuel = C .fuel - 1;
           enough = omega (arith, C .enough);
-          same = λ cs e. C .same cs e ∙ each-one l step words cs at inner (C .fuel) (omega (arith, C .enough)) ∙ rw (it-fits cs e);
+          same = λ cs e. C .same cs e ∙ one-band l step words cs at inner (C .fuel) (omega (arith, C .enough)) ∙ rw (it-fits cs e);
           counted = λ cs e.
               let a = C .counted cs e in
               let b = count cs e in
@@ -95,7 +94,7 @@ module _ (l : Label) (z : Sized l) (step : ℕ) (s : List ℕ) (words : ℕ) whe
     pub counted-all : Counted l step s words (Cells total)
     counted-all = record {
       full = λ e. absurd (let z : _≡_ {A = ℕ} 0 1 = cc in omega arith);
-      fit = λ n e cs r. C .same cs r ∙ each-none l step words cs at over (C .fuel);
+      fit = λ n e cs r. C .same cs r ∙ none-behind l step words cs at over (C .fuel);
       counted = λ n e cs r. same-count n e ∙ C .counted cs r ∙ ap (λ (k : ℕ). distinct (band 0 (k - l .first) (logOf l cs))) at-end ∙ all-cells l z cs;
       few = λ n e. let q = same-count n e in omega (arith, C .few, C .to, C .from, z .inside, z .low);
     }
@@ -103,7 +102,7 @@ module _ (l : Label) (z : Sized l) (step : ℕ) (s : List ℕ) (words : ℕ) whe
         same-count : (n : ℕ) → Cells total ≡ Cells n → n ≡ total
         same-count n e = cc
 
-pub counted-full : (l : Label) (step : ℕ) (s : List ℕ) (words : ℕ) → ((cs : List Command) → Reads l s cs → allFit step l words cs ≡ false) → Counted l step s words Full
+pub counted-full : (l : Label) (step : ℕ) (s : List ℕ) (words : ℕ) → ((cs : List Command) → Reads l s cs → tooManyInBand step l words cs ≡ true) → Counted l step s words Full
 counted-full l step s words h = record {
   full = λ e. h;
   fit = λ n e. absurd (let z : _≡_ {A = ℕ} 0 1 = cc in omega arith);

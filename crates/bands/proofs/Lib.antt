@@ -3,4 +3,5 @@ pub mod Rows
 pub mod Counting
 pub mod Painting
 pub mod Whole
+pub mod OldContents
 pub mod OneOutcome

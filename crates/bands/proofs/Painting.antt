@@ -1,7 +1,7 @@
 -- The bands painted one after the other: the rows before `at` have their pixels, every other byte is as it was.
 use Prim.Native.Nat.{ℕ, _+_, _*_, _-_, _^_, _≤_, _<_, min}
 use mathlib.Core.Path.{_≡_, refl, sym, ap, _∙_}
-use mathlib.Core.Bool.{Bool, true, false, cond, _&&_}
+use mathlib.Core.Bool.{Bool, true, false, cond, _||_}
 use mathlib.Core.Logic.{_⊎_, inl, inr}
 use mathlib.Core.List.{List}
 use native.Mathlib.Omega.{arith}
@@ -9,8 +9,7 @@ use native.Mathlib.Nat.{mul-le-mul, mul-le-mul-left}
 use native.Mathlib.Decide.{decLt}
 use lib.ListN.{length, getD, take, drop, length-drop}
 use lib.Seq.{length-take-le, getD-take, getD-drop}
-use lib.Dec.{leb}
-use borrow.Author.Tests.{leb-true}
+use borrow.Author.Tests.{ltb-false}
 use borrow.Rule.Slice.PartMut.{putMid}
 use Rattle.storage.specs.declared.Kept.{Kept}
 use Rattle.storage.specs.declared.Kept.the-variants.{Cells, Full}
@@ -23,16 +22,15 @@ use Rattle.sweep.proofs.Lines.{mid-before, mid-inside, mid-behind, mid-long}
 use Rattle.sweep.proofs.Mask.{mask-is, mask-by-bytes}
 use Rattle.label.specs.declared.Label.{Label}
 use Rattle.label.specs.Checks.{rows}
-use Rattle.label.specs.Draw.{poolOf, paintedOf}
+use Rattle.label.specs.Draw.{poolOf, paintedOf, logOf, tooMany}
 use Rattle.label.specs.Inking.{Sized, Lent, Poured}
 use Rattle.claims.specs.OldContents.{spotOf}
-use Rattle.claims.specs.Bands.{bandOf, logOf, byteFor}
-use Rattle.claims.proofs.Tests.{both-true}
+use Rattle.claims.specs.Bands.{bandOf}
 use Rattle.claims.proofs.Painted.{back, on-line, painted-row, other-byte}
-use Rattle.bands.specs.InBands.{bandEnd, fits, eachFits, allFit}
+use Rattle.bands.specs.InBands.{bandEnd, tooManyFrom, tooManyInBand}
 use Rattle.bands.specs.Steps.{lineOf, Reads, BandPainted, Painted}
 use Rattle.bands.proofs.Cells.{sub-pixel}
-use Rattle.bands.proofs.Rows.{each-none, each-one, from-bottom, line-in, row-line}
+use Rattle.bands.proofs.Rows.{one-band, from-bottom, line-in, row-line}
 
 -- ---- one band
 -- a pool that is full was too small
@@ -54,13 +52,17 @@ band-swept b z s words words′ mask mask′ k {n} f P S = record {
 }
 
 -- ---- all bands
+neither : (a b : Bool) → (a || b) ≡ false → (a ≡ false) × (b ≡ false)
+neither false b e = (refl, e)
+neither true b e = absurd (let z : _≡_ {A = ℕ} 0 1 = cc in omega arith)
+
 -- the byte of path row y and column x
 abbrev pub byteOf : Label → ℕ → ℕ → ℕ
 byteOf l y x = spotOf l (rowAt (l .up) (rows l) (y - l .first)) x
 
 -- what is so of a path that fits
 pub record Shown (l : Label) (step : ℕ) (words : ℕ) (before after : List ℕ) (at fuel : ℕ) (cs : List Command) : Type 0 where
-  pub rest : eachFits fuel step l words cs at ≡ true
+  pub rest : tooManyFrom fuel step l words cs at ≡ false
   pub painted : (y x : ℕ) → l .first ≤ y → y < at → x < l .width → getD after (byteOf l y x) 0 ≡ pixel (l .fill) (logOf l cs) (y - l .first) x
   pub kept : (i : ℕ) → ((y x : ℕ) → l .first ≤ y → y < at → x < l .width → i ≡ byteOf l y x → ⊥) → getD after i 0 ≡ getD before i 0
 
@@ -70,7 +72,7 @@ pub record Painting (l : Label) (step : ℕ) (s : List ℕ) (words : ℕ) (befor
   pub long : length after ≡ length before
   pub fuel : ℕ
   pub enough : l .end - at ≤ fuel
-  pub shown : (cs : List Command) → Reads l s cs → allFit step l words cs ≡ true → Shown l step words before after at fuel cs
+  pub shown : (cs : List Command) → Reads l s cs → tooManyInBand step l words cs ≡ false → Shown l step words before after at fuel cs
 
 pub painting-none : (l : Label) (step : ℕ) (s : List ℕ) (words : ℕ) (mask : List ℕ) → Sized l → Painting l step s words mask mask (l .first)
 painting-none l step s words mask z = record {
@@ -169,15 +171,15 @@ module _ (l : Label) (z : Sized l) (step : ℕ) (positive : 0 < step) (s : List 
     abbrev whole : List ℕ
     whole = putMid first count after new
 
-    module _ (cs : List Command) (e : Reads l s cs) (f : allFit step l words cs ≡ true) where
+    module _ (cs : List Command) (e : Reads l s cs) (f : tooManyInBand step l words cs ≡ false) where
       S : Shown l step words before after at (P .fuel) cs
       S = P .shown cs e f
 
-      two : (fits mine words cs ≡ true) × (eachFits (P .fuel - 1) step l words cs next ≡ true)
-      two = both-true _ _ (sym (each-one l step words cs at inner (P .fuel) (omega (arith, P .enough))) ∙ S .rest)
+      two : (tooMany mine words cs ≡ false) × (tooManyFrom (P .fuel - 1) step l words cs next ≡ false)
+      two = neither _ _ (sym (one-band l step words cs at inner (P .fuel) (omega (arith, P .enough))) ∙ S .rest)
 
       is-painted : new ≡ paintedOf mine (logOf mine cs) part
-      is-painted = B .painted cs e (leb-true _ _ (two .0))
+      is-painted = B .painted cs e (ltb-false _ _ (two .0))
 
       mine-lines : 0 < rows mine → l .pitch * (rows mine - 1) + l .width ≤ length part
       mine-lines h = omega arith

@@ -1,40 +1,40 @@
--- Bands of a label: whether each fits, band by band; their sizes and the bytes of their rows.
+-- Bands of a label: rule 13, their sizes, and the lines of their rows.
 use Prim.Native.Nat.{ℕ, zero, suc, _+_, _*_, _-_, _≤_, _<_, min}
 use mathlib.Core.Path.{_≡_, refl, sym, ap, _∙_}
-use mathlib.Core.Bool.{Bool, true, false, cond, _&&_}
+use mathlib.Core.Bool.{Bool, true, false, cond, _||_}
 use mathlib.Core.List.{List}
 use native.Mathlib.Omega.{arith}
 use native.Mathlib.Nat.{mul-le-mul-left}
-use lib.Dec.{leb, ltb}
 use borrow.Author.Tests.{lt-ltb, le-ltb}
 use Rattle.command.specs.declared.Command.{Command}
 use Rattle.sweep.specs.Masks.{rowAt}
 use Rattle.label.specs.declared.Label.{Label}
 use Rattle.label.specs.Checks.{rows}
 use Rattle.label.specs.Inking.{Sized, Lent}
+use Rattle.label.specs.Draw.{tooMany}
 use Rattle.claims.specs.Bands.{bandOf}
-use Rattle.bands.specs.InBands.{bandEnd, fits, eachFits}
+use Rattle.bands.specs.InBands.{bandEnd, tooManyFrom}
 use Rattle.bands.specs.Steps.{lineOf}
 
--- ---- whether each band fits
+-- ---- rule 13, band by band
 module _ (l : Label) (step words : ℕ) (cs : List Command) (at : ℕ) where
-  pub each-zero : eachFits 0 step l words cs at ≡ true
-  unfolding eachFits
-  each-zero = refl
+  pub none-left : tooManyFrom 0 step l words cs at ≡ false
+  unfolding tooManyFrom
+  none-left = refl
 
-  pub each-none : l .end ≤ at → (fuel : ℕ) → eachFits fuel step l words cs at ≡ true
-  unfolding eachFits
-  each-none h zero = refl
-  each-none h (suc n) = rw (eachFits, le-ltb at (l .end) h)
+  pub none-behind : l .end ≤ at → (fuel : ℕ) → tooManyFrom fuel step l words cs at ≡ false
+  unfolding tooManyFrom
+  none-behind h zero = refl
+  none-behind h (suc n) = rw (tooManyFrom, le-ltb at (l .end) h)
 
-  pub each-one : at < l .end → (fuel : ℕ) → 0 < fuel
-      → eachFits fuel step l words cs at ≡ (fits (bandOf l at (bandEnd step at (l .end))) words cs && eachFits (fuel - 1) step l words cs (bandEnd step at (l .end)))
-  unfolding eachFits
-  each-one h zero g = absurd (omega arith)
-  each-one h (suc n) g =
+  pub one-band : at < l .end → (fuel : ℕ) → 0 < fuel
+      → tooManyFrom fuel step l words cs at ≡ (tooMany (bandOf l at (bandEnd step at (l .end))) words cs || tooManyFrom (fuel - 1) step l words cs (bandEnd step at (l .end)))
+  unfolding tooManyFrom
+  one-band h zero g = absurd (omega arith)
+  one-band h (suc n) g =
       let e : n ≡ suc n - 1 = omega arith in
-      rw (eachFits, lt-ltb at (l .end) h)
-      (ap (λ (k : ℕ). fits (bandOf l at (bandEnd step at (l .end))) words cs && eachFits k step l words cs (bandEnd step at (l .end))) e)
+      rw (tooManyFrom, lt-ltb at (l .end) h)
+      (ap (λ (k : ℕ). tooMany (bandOf l at (bandEnd step at (l .end))) words cs || tooManyFrom k step l words cs (bandEnd step at (l .end))) e)
 
 -- ---- sizes
 -- the line of row y from the bottom of [first, end)

@@ -10,9 +10,8 @@ use Rattle.storage.specs.Deposits.{distinct}
 use Rattle.command.specs.declared.Command.{Command}
 use Rattle.path.specs.Reading.{path, readList}
 use Rattle.label.specs.declared.Label.{Label}
-use Rattle.label.specs.Draw.{Outcome, poolOf, paintedOf}
-use Rattle.claims.specs.Bands.{logOf}
-use Rattle.bands.specs.InBands.{allFit, inkedInBands}
+use Rattle.label.specs.Draw.{poolOf, paintedOf, logOf}
+use Rattle.bands.specs.InBands.{tooManyInBand}
 
 -- the line of the label's mask on which the band [first, end) begins
 abbrev pub lineOf : Label → ℕ → ℕ → ℕ
@@ -22,10 +21,10 @@ lineOf l first end = cond (l .up) (l .end - end) (first - l .first)
 abbrev pub Reads : Label → List ℕ → List Command → Type 0
 Reads l s cs = readList (l .transform) (l .offset) s ≡ path cs
 
--- of an accepted list: full exactly when a band does not fit; else the count is that of the label's distinct places
+-- of an accepted list: full exactly when a band has too many; else the count is that of the label's distinct places
 pub record Counted (l : Label) (step : ℕ) (s : List ℕ) (words : ℕ) (r : Kept) : Type 0 where
-  pub full : r ≡ Full → (cs : List Command) → Reads l s cs → allFit step l words cs ≡ false
-  pub fit : (n : ℕ) → r ≡ Cells n → (cs : List Command) → Reads l s cs → allFit step l words cs ≡ true
+  pub full : r ≡ Full → (cs : List Command) → Reads l s cs → tooManyInBand step l words cs ≡ true
+  pub fit : (n : ℕ) → r ≡ Cells n → (cs : List Command) → Reads l s cs → tooManyInBand step l words cs ≡ false
   pub counted : (n : ℕ) → r ≡ Cells n → (cs : List Command) → Reads l s cs → n ≡ distinct (logOf l cs)
   pub few : (n : ℕ) → r ≡ Cells n → n ≤ 33554432
 
@@ -34,8 +33,4 @@ pub record BandPainted (b : Label) (s : List ℕ) (words : ℕ) (before after : 
   pub painted : (cs : List Command) → Reads b s cs → distinct (logOf b cs) ≤ poolOf b words → after ≡ paintedOf b (logOf b cs) before
 
 pub record Painted (l : Label) (step : ℕ) (s : List ℕ) (words : ℕ) (before after : List ℕ) : Type 0 where
-  pub painted : (cs : List Command) → Reads l s cs → allFit step l words cs ≡ true → after ≡ paintedOf l (logOf l cs) before
-
--- of an accepted list: the outcome is the rule's
-pub record InkedInBands (l : Label) (step records : ℕ) (s mask words : List ℕ) (o : Outcome) : Type 0 where
-  pub rule : (cs : List Command) → Reads l s cs → records ≡ length cs → o ≡ inkedInBands step l mask words cs
+  pub painted : (cs : List Command) → Reads l s cs → tooManyInBand step l words cs ≡ false → after ≡ paintedOf l (logOf l cs) before

@@ -11,10 +11,10 @@ ghost use Prim.Native.Nat.{_+_, _*_, _-_, _<_, _≤_, min, max};
 ghost use lib.ListN.{length};
 ghost use Rattle.label.specs.Checks.{rows};
 ghost use Rattle.label.specs.Draw.{outcome, drawOf};
-ghost use Rattle.label.specs.Inking.{Sized, Lent};
+ghost use Rattle.label.specs.Inking.{Sized, Lent, Inked};
 ghost use Rattle.claims.specs.Bands.{bandOf};
-ghost use Rattle.bands.specs.InBands.{bandEnd, drawInBandsOf, AsAtOnce};
-ghost use Rattle.bands.specs.Steps.{lineOf, Counted, BandPainted, Painted, InkedInBands};
+ghost use Rattle.bands.specs.InBands.{bandEnd, tooManyInBand, drawInBandsOf, AsAtOnce};
+ghost use Rattle.bands.specs.Steps.{lineOf, Counted, BandPainted, Painted};
 
 // A band has a row at least.
 fn rows_of(step: usize) -> usize
@@ -128,7 +128,7 @@ fn ink(
     words: &mut [u32],
 ) -> Answer
     requires { ⌜ Sized l ⌝ ∗ ⌜ Lent l (length (now mask)) (length (now words)) ⌝ ∗ ⌜ 0 < step ⌝ }
-    ensures { λ r. ⌜ InkedInBands l step records (now (list .entry)) (now (mask .entry)) (now (words .entry)) (outcome r (now (mask .exit)) (now (words .exit))) ⌝ }
+    ensures { λ r. ⌜ Inked (tooManyInBand step l (length (now (words .entry)))) l records (now (list .entry)) (now (mask .entry)) (now (words .entry)) (outcome r (now (mask .exit)) (now (words .exit))) ⌝ }
 {
     match count(list, l, step, words) {
         Kept::Full => {

@@ -19,13 +19,14 @@ use Rattle.path.specs.Strokes.{strokesOf}
 use Rattle.label.specs.declared.Label.{Label}
 use Rattle.label.specs.declared.Answer.the-variants.{Drawn}
 use Rattle.label.specs.Checks.{rows, sizesOf, checkedOf}
-use Rattle.label.specs.Draw.{Outcome, outcome, poolOf, paintedOf, wiped, drawOf}
+use Rattle.label.specs.Draw.{Outcome, outcome, poolOf, paintedOf, wiped, logOf, drawOf}
 use Rattle.label.specs.Inking.{Sized, Lent}
 use Rattle.label.proofs.Sizes.{Fitting, fitting, all-fit, sizes-then}
+use Rattle.label.proofs.Drawing.{answered}
 use Rattle.claims.specs.Ink.{ink}
 use Rattle.claims.specs.Parts.{band, frame}
 use Rattle.claims.specs.OldContents.{spotOf}
-use Rattle.claims.specs.Bands.{bandOf, wholeOf, laid, logOf, byteFor, Roomy, Agrees, Piece, pieceOf, Cuts, done, cut, cellsOf, cellsOver}
+use Rattle.claims.specs.Bands.{bandOf, wholeOf, laid, byteFor, Roomy, Agrees, Piece, pieceOf, Cuts, done, cut, cellsOf, cellsOver}
 use Rattle.claims.proofs.Inked.{ink-seen}
 use Rattle.claims.proofs.Parts.{distinct-part, distinct-join}
 use Rattle.claims.proofs.Rows.{seen-band, pixel-band}
@@ -50,10 +51,7 @@ log-band l narrow cs first end low =
     ∙ seen-band (l .width) first end (l .height) narrow low (ink strokes)
     ∙ ap (band first end) (sym (ink-seen (frame (l .width) 0 (l .height)) strokes near))
 
--- the answer and the mask of an outcome that is known
-answer-of : {o p : Outcome} → o ≡ p → o .answer ≡ p .answer
-answer-of e = ap (λ (o : Outcome). o .answer) e
-
+-- the mask of an outcome that is known
 mask-of : {o p : Outcome} (i : ℕ) → o ≡ p → getD (o .mask) i 0 ≡ getD (p .mask) i 0
 mask-of i e = ap (λ (o : Outcome). getD (o .mask) i 0) e
 
@@ -146,13 +144,13 @@ module _ (l : Label) (s mask words : List ℕ) (records cells : ℕ) (h : drawOf
     bands =
         record {
           cells = distinct own-log;
-          accepted = rw (was .counted) at (answer-of own-drawn);
+          accepted = rw (was .counted) at (answered own-drawn);
           pixels = λ y x p q r. own-byte y x p q r ∙ sym (whole-byte y x (omega arith) r);
           ruled = λ cs e y x p q r. own-byte y x p q r ∙ ap (λ (ds : List Deposit). pixel (l .fill) ds y x) (same-log cs e);
         }
 
     own-cells : cellsOf (drawOf (bandOf (laid l up pitch) first end) s own-mask own-words .answer) ≡ distinct (band first end log)
-    own-cells = ap cellsOf (answer-of own-drawn) ∙ ap distinct log-is
+    own-cells = ap cellsOf (answered own-drawn) ∙ ap distinct log-is
 
   -- ---- bands from cut to cut
   to-height : {n from : ℕ} {ps : List Piece} → Cuts l n from ps → from ≤ l .height

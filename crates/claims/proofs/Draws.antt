@@ -7,7 +7,7 @@ use native.Mathlib.Omega.{arith}
 use lib.ListN.{length}
 use lib.Dec.{ltb}
 use borrow.Author.Tests.{lt-ltb, le-ltb, ltb-true, ltb-false}
-use Rattle.storage.specs.Deposits.{Deposit, distinct}
+use Rattle.storage.specs.Deposits.{distinct}
 use Rattle.geometry.specs.declared.Point.{Point}
 use Rattle.geometry.specs.declared.Transform.{Transform}
 use Rattle.fixed.specs.declared.Spot.{Spot}
@@ -26,9 +26,9 @@ use Rattle.label.specs.declared.Answer.the-variants.{Drawn, Refused}
 use Rattle.path.specs.declared.Refusal.{Refusal}
 use Rattle.path.specs.declared.Refusal.the-variants.{Full}
 use Rattle.label.specs.Checks.{checkedOf}
-use Rattle.label.specs.Draw.{Outcome, outcome, poolOf, paintedOf, wiped, inked, drawnFrom, checkedDraw, drawOf}
+use Rattle.label.specs.Draw.{outcome, poolOf, paintedOf, wiped, logOf, tooMany, inked, drawOf}
+use Rattle.label.proofs.Drawing.{answered, refused-not-drawn, draw-is, by-refused, by-path, turned, drawn-from}
 use Rattle.claims.specs.Ink.{AllReach}
-use Rattle.claims.specs.Bands.{logOf}
 
 -- ---- the strokes of a list are within reach
 module _ (t : Transform) (o : Point) where
@@ -61,64 +61,49 @@ pub record Accepted (l : Label) (s : List ℕ) (mask words records cells : ℕ) 
   pub counted : length cs ≡ records
   pub found : distinct (logOf l cs) ≡ cells
 
-module _ (l : Label) (mask words : List ℕ) (records : ℕ) (log : List Deposit) where
-  enough : distinct log ≤ poolOf l (length words) → inked l mask words records log ≡ outcome (Drawn records (distinct log)) (paintedOf l log mask) (wiped words)
+module _ (l : Label) (mask words : List ℕ) (cs : List Command) where
+  enough : distinct (logOf l cs) ≤ poolOf l (length words)
+      → inked (tooMany l (length words) cs) l mask words cs ≡ outcome (Drawn (length cs) (distinct (logOf l cs))) (paintedOf l (logOf l cs) mask) (wiped words)
   unfolding inked
   enough room = rw (le-ltb _ _ room)
 
-  too-many : poolOf l (length words) < distinct log → inked l mask words records log ≡ outcome (Refused Full 0) mask (wiped words)
+  too-many : poolOf l (length words) < distinct (logOf l cs) → inked (tooMany l (length words) cs) l mask words cs ≡ outcome (Refused Full 0) mask (wiped words)
   unfolding inked
   too-many room = rw (lt-ltb _ _ room)
 
-refused-not-drawn : {X : Type 0} {w : Refusal} {i n c : ℕ} → Refused w i ≡ Drawn n c → X
-refused-not-drawn e = absurd (let z : _≡_ {A = ℕ} 0 1 = cc in omega arith)
-
 module _ (l : Label) (s mask words : List ℕ) where
-  checked : (v : Verdict) → checkedOf l (length s) (length mask) (length words) ≡ v → drawOf l s mask words ≡ checkedDraw v l s mask words
-  unfolding drawOf
-  checked v e = rw e
+  abbrev full : List Command → Bool
+  full = tooMany l (length words)
 
-  turned : (w : Refusal) → checkedDraw (Faulty w) l s mask words ≡ outcome (Refused w 0) mask words
-  unfolding checkedDraw
-  turned w = refl
+  abbrev known : Verdict → Type 0
+  known v = checkedOf l (length s) (length mask) (length words) ≡ v
 
-  drawn : (r : Read) → readList (l .transform) (l .offset) s ≡ r → checkedDraw Fine l s mask words ≡ drawnFrom l mask words r
-  unfolding checkedDraw
-  drawn r e = rw e
-
-  unread : (w : Refusal) (i : ℕ) → drawnFrom l mask words (refused w i) ≡ outcome (Refused w i) mask words
-  unfolding drawnFrom
-  unread w i = refl
-
-  inks : (cs : List Command) → drawnFrom l mask words (path cs) ≡ inked l mask words (length cs) (logOf l cs)
-  unfolding drawnFrom
-  inks cs = refl
-
-  module _ (cs : List Command) (fine : checkedOf l (length s) (length mask) (length words) ≡ Fine) (read : readList (l .transform) (l .offset) s ≡ path cs) where
-    is-inked : drawOf l s mask words ≡ inked l mask words (length cs) (logOf l cs)
-    is-inked = checked Fine fine ∙ drawn (path cs) read ∙ inks cs
+  module _ (cs : List Command) (fine : known Fine) (read : readList (l .transform) (l .offset) s ≡ path cs) where
+    is-inked : drawOf l s mask words ≡ inked (full cs) l mask words cs
+    is-inked = sym (draw-is l s mask words) ∙ sym (drawn-from full l s mask words fine (path cs) read) ∙ by-path full l mask words cs
 
     -- a list that passes the checks and fits the pool is drawn
     pub draws : distinct (logOf l cs) ≤ poolOf l (length words) → drawOf l s mask words ≡ outcome (Drawn (length cs) (distinct (logOf l cs))) (paintedOf l (logOf l cs) mask) (wiped words)
-    draws room = is-inked ∙ enough l mask words (length cs) (logOf l cs) room
+    draws room = is-inked ∙ enough l mask words cs room
 
   -- and no other
   module _ (records cells : ℕ) (h : drawOf l s mask words .answer ≡ Drawn records cells) where
-    of-log : (cs : List Command) → checkedOf l (length s) (length mask) (length words) ≡ Fine → readList (l .transform) (l .offset) s ≡ path cs
-        → (t : Bool) → ltb (poolOf l (length words)) (distinct (logOf l cs)) ≡ t → Accepted l s (length mask) (length words) records cells
-    of-log cs e g true u =
-        refused-not-drawn (sym (ap (λ (o : Outcome). o .answer) (is-inked cs e g ∙ too-many l mask words (length cs) (logOf l cs) (ltb-true _ _ u))) ∙ h)
+    turned-away : {X : Type 0} {w : Refusal} {i : ℕ} {words′ : List ℕ} → outcome (Refused w i) mask words′ ≡ drawOf l s mask words → X
+    turned-away e = refused-not-drawn (answered e ∙ h)
+
+    of-log : (cs : List Command) → known Fine → readList (l .transform) (l .offset) s ≡ path cs → (t : Bool) → full cs ≡ t → Accepted l s (length mask) (length words) records cells
+    of-log cs e g true u = turned-away (sym (is-inked cs e g ∙ too-many l mask words cs (ltb-true _ _ u)))
     of-log cs e g false u =
         let room = ltb-false _ _ u in
-        let same : Drawn (length cs) (distinct (logOf l cs)) ≡ Drawn records cells = sym (ap (λ (o : Outcome). o .answer) (draws cs e g room)) ∙ h in
+        let same : Drawn (length cs) (distinct (logOf l cs)) ≡ Drawn records cells = sym (answered (draws cs e g room)) ∙ h in
         record { cs = cs; fine = e; read = g; room = room; counted = cc; found = cc }
 
-    of-read : checkedOf l (length s) (length mask) (length words) ≡ Fine → (r : Read) → readList (l .transform) (l .offset) s ≡ r → Accepted l s (length mask) (length words) records cells
-    of-read e (refused w i) g = refused-not-drawn (sym (ap (λ (o : Outcome). o .answer) (checked Fine e ∙ drawn (refused w i) g ∙ unread w i)) ∙ h)
-    of-read e (path cs) g = of-log cs e g (ltb (poolOf l (length words)) (distinct (logOf l cs))) refl
+    of-read : known Fine → (r : Read) → readList (l .transform) (l .offset) s ≡ r → Accepted l s (length mask) (length words) records cells
+    of-read e (refused w i) g = turned-away (sym (by-refused full l mask words w i) ∙ drawn-from full l s mask words e (refused w i) g ∙ draw-is l s mask words)
+    of-read e (path cs) g = of-log cs e g (full cs) refl
 
-    of-check : (v : Verdict) → checkedOf l (length s) (length mask) (length words) ≡ v → Accepted l s (length mask) (length words) records cells
-    of-check (Faulty w) e = refused-not-drawn (sym (ap (λ (o : Outcome). o .answer) (checked (Faulty w) e ∙ turned w)) ∙ h)
+    of-check : (v : Verdict) → known v → Accepted l s (length mask) (length words) records cells
+    of-check (Faulty w) e = turned-away (turned full l s mask words w e ∙ draw-is l s mask words)
     of-check Fine e = of-read e (readList (l .transform) (l .offset) s) refl
 
     pub accepted : Accepted l s (length mask) (length words) records cells

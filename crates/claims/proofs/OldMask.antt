@@ -1,93 +1,93 @@
 -- Two drawings that differ in old mask bytes: the checks look at the mask's length only, and a written byte is a pixel of the deposits.
 use Prim.Native.Nat.{ℕ, _<_}
 use mathlib.Core.Path.{_≡_, refl, sym, ap, _∙_}
-use mathlib.Core.Bool.{Bool, true, false, cond}
+use mathlib.Core.Bool.{Bool, true, false}
 use mathlib.Core.List.{List}
 use native.Mathlib.Omega.{arith}
-use lib.Dec.{ltb}
 use lib.ListN.{length}
-use Rattle.storage.specs.Deposits.{Deposit, distinct}
-use Rattle.raster.specs.Path.{depositsOf}
+use Rattle.command.specs.declared.Command.{Command}
 use Rattle.path.specs.declared.Refusal.{Refusal}
 use Rattle.path.specs.declared.Refusal.the-variants.{Full}
 use Rattle.path.specs.declared.Verdict.{Verdict}
 use Rattle.path.specs.declared.Verdict.the-variants.{Fine, Faulty}
 use Rattle.path.specs.Reading.{Read, refused, path, readList}
-use Rattle.path.specs.Strokes.{strokesOf}
 use Rattle.label.specs.declared.Label.{Label}
-use Rattle.label.specs.declared.Answer.the-variants.{Drawn, Refused}
-use Rattle.label.specs.Checks.{rows, checkedOf}
-use Rattle.label.specs.Draw.{poolOf, frameOf, outcome, wiped, paintedOf, inked, drawnFrom, checkedDraw, drawOf}
+use Rattle.label.specs.declared.Answer.the-variants.{Refused}
+use Rattle.label.specs.Checks.{checkedOf}
+use Rattle.label.specs.Draw.{outcome, wiped, logOf, tooMany, inked, drawnFrom, checkedDraw, drawBy, drawOf}
 use Rattle.label.proofs.Sizes.{Fitting, fitting}
 use Rattle.claims.specs.OldContents.{MaskAfter, MasksAfter, AlikeButMask, OldMask}
 use Rattle.claims.proofs.OldWords.{by-lengths}
 use Rattle.claims.proofs.Painted.{painted-long, painted-line, other-byte}
 
 -- ---- the mask after a drawing
-module _ (l : Label) (s mask words : List ℕ) where
+module _ (full : List Command → Bool) (l : Label) (mask words : List ℕ) where
   left : (w : Refusal) (i : ℕ) (words′ : List ℕ) → MaskAfter l mask (outcome (Refused w i) mask words′)
   left w i words′ = record { long = refl; refused = λ h. refl; others = λ i h n. refl }
 
-  after-inked : (records : ℕ) (log : List Deposit) → MaskAfter l mask (inked l mask words records log)
+  after-inked : (b : Bool) (cs : List Command) → MaskAfter l mask (inked b l mask words cs)
   unfolding inked
-  after-inked records log = pick (ltb (poolOf l (length words)) (distinct log))
-    where
-      pick : (b : Bool) → MaskAfter l mask (cond b (outcome (Refused Full 0) mask (wiped words)) (outcome (Drawn records (distinct log)) (paintedOf l log mask) (wiped words)))
-      pick true = left Full 0 (wiped words)
-      pick false = record {
-        long = painted-long l log mask;
-        refused = λ h. absurd (let z : _≡_ {A = ℕ} 0 1 = cc in omega arith);
-        others = other-byte l log mask;
-      }
+  after-inked true cs = left Full 0 (wiped words)
+  after-inked false cs = record {
+    long = painted-long l (logOf l cs) mask;
+    refused = λ h. absurd (let z : _≡_ {A = ℕ} 0 1 = cc in omega arith);
+    others = other-byte l (logOf l cs) mask;
+  }
 
-  after-drawn : (r : Read) → MaskAfter l mask (drawnFrom l mask words r)
+  after-drawn : (r : Read) → MaskAfter l mask (drawnFrom full l mask words r)
   unfolding drawnFrom
   after-drawn (refused w i) = left w i words
-  after-drawn (path cs) = after-inked (length cs) (depositsOf (frameOf l) (strokesOf (l .transform) (l .offset) cs))
+  after-drawn (path cs) = after-inked (full cs) cs
 
-  after-checked : (v : Verdict) → MaskAfter l mask (checkedDraw v l s mask words)
+  after-checked : (s : List ℕ) (v : Verdict) → MaskAfter l mask (checkedDraw full v l s mask words)
   unfolding checkedDraw
-  after-checked (Faulty w) = left w 0 words
-  after-checked Fine = after-drawn (readList (l .transform) (l .offset) s)
+  after-checked s (Faulty w) = left w 0 words
+  after-checked s Fine = after-drawn (readList (l .transform) (l .offset) s)
 
-pub masks-after : MasksAfter
+pub masks-after-by : (full : Label → ℕ → List Command → Bool) → MasksAfter (λ l s mask words. drawBy (full l (length words)) l s mask words)
+unfolding drawBy
+masks-after-by full l s mask words = after-checked (full l (length words)) l mask words s (checkedOf l (length s) (length mask) (length words))
+
+pub masks-after : MasksAfter drawOf
 unfolding drawOf
-masks-after l s mask words = after-checked l s mask words (checkedOf l (length s) (length mask) (length words))
+masks-after = masks-after-by tooMany
 
 -- ---- other bytes
-module _ (l : Label) (s mask mask′ words : List ℕ) (e : length mask ≡ length mask′) where
+module _ (full : List Command → Bool) (l : Label) (mask mask′ words : List ℕ) (e : length mask ≡ length mask′) where
   both-left : (w : Refusal) (i : ℕ) (words′ : List ℕ) → AlikeButMask l (outcome (Refused w i) mask words′) (outcome (Refused w i) mask′ words′)
   both-left w i words′ = record { answer = refl; words = refl; written = λ h. absurd (let z : _≡_ {A = ℕ} 0 1 = cc in omega arith) }
 
   module _ (f : Fitting l (length mask) (length words)) where
-    both-inked : (records : ℕ) (log : List Deposit) → AlikeButMask l (inked l mask words records log) (inked l mask′ words records log)
+    f′ : Fitting l (length mask′) (length words)
+    f′ = rw (← e) f
+
+    both-inked : (b : Bool) (cs : List Command) → AlikeButMask l (inked b l mask words cs) (inked b l mask′ words cs)
     unfolding inked
-    both-inked records log = pick (ltb (poolOf l (length words)) (distinct log))
-      where
-        f′ : Fitting l (length mask′) (length words)
-        f′ = rw (← e) f
+    both-inked true cs = both-left Full 0 (wiped words)
+    both-inked false cs = record {
+      answer = refl;
+      words = refl;
+      written = λ h y x a b.
+          painted-line l (logOf l cs) mask (f .sized .pitched) (f .lent .lines) y x a b
+          ∙ sym (painted-line l (logOf l cs) mask′ (f′ .sized .pitched) (f′ .lent .lines) y x a b);
+    }
 
-        pick : (b : Bool)
-            → AlikeButMask l (cond b (outcome (Refused Full 0) mask (wiped words)) (outcome (Drawn records (distinct log)) (paintedOf l log mask) (wiped words)))
-            (cond b (outcome (Refused Full 0) mask′ (wiped words)) (outcome (Drawn records (distinct log)) (paintedOf l log mask′) (wiped words)))
-        pick true = both-left Full 0 (wiped words)
-        pick false = record {
-          answer = refl;
-          words = refl;
-          written = λ h y x a b. painted-line l log mask (f .sized .pitched) (f .lent .lines) y x a b ∙ sym (painted-line l log mask′ (f′ .sized .pitched) (f′ .lent .lines) y x a b);
-        }
-
-    both-drawn : (r : Read) → AlikeButMask l (drawnFrom l mask words r) (drawnFrom l mask′ words r)
+    both-drawn : (r : Read) → AlikeButMask l (drawnFrom full l mask words r) (drawnFrom full l mask′ words r)
     unfolding drawnFrom
     both-drawn (refused w i) = both-left w i words
-    both-drawn (path cs) = both-inked (length cs) (depositsOf (frameOf l) (strokesOf (l .transform) (l .offset) cs))
+    both-drawn (path cs) = both-inked (full cs) cs
 
-  both-checked : (v : Verdict) → (v ≡ Fine → Fitting l (length mask) (length words)) → AlikeButMask l (checkedDraw v l s mask words) (checkedDraw v l s mask′ words)
+  both-checked : (s : List ℕ) (v : Verdict) → (v ≡ Fine → Fitting l (length mask) (length words)) → AlikeButMask l (checkedDraw full v l s mask words) (checkedDraw full v l s mask′ words)
   unfolding checkedDraw
-  both-checked (Faulty w) g = both-left w 0 words
-  both-checked Fine g = both-drawn (g refl) (readList (l .transform) (l .offset) s)
+  both-checked s (Faulty w) g = both-left w 0 words
+  both-checked s Fine g = both-drawn (g refl) (readList (l .transform) (l .offset) s)
 
-pub old-mask : OldMask
-old-mask l s mask mask′ words e =
-    rw (by-lengths l s mask words (length mask) (length words) refl refl, by-lengths l s mask′ words (length mask) (length words) (sym e) refl)
-    (both-checked l s mask mask′ words e (checkedOf l (length s) (length mask) (length words)) (fitting l (length s) (length mask) (length words)))
+pub old-mask-by : (full : Label → ℕ → List Command → Bool) → OldMask (λ l s mask words. drawBy (full l (length words)) l s mask words)
+old-mask-by full l s mask mask′ words e =
+    let w = full l (length words) in
+    rw (by-lengths w l s mask words (length mask) (length words) refl refl, by-lengths w l s mask′ words (length mask) (length words) (sym e) refl)
+    (both-checked w l mask mask′ words e s (checkedOf l (length s) (length mask) (length words)) (fitting l (length s) (length mask) (length words)))
+
+pub old-mask : OldMask drawOf
+unfolding drawOf
+old-mask = old-mask-by tooMany

@@ -28,7 +28,7 @@ use Rattle.path.specs.Strokes.{strokesOf}
 use Rattle.label.specs.declared.Label.{Label}
 use Rattle.label.specs.declared.Answer.the-variants.{Drawn, Refused}
 use Rattle.label.specs.Checks.{mostPixels, mostPitch, rows, sizesOf, andThen, checkedOf}
-use Rattle.label.specs.Draw.{poolOf, frameOf, Outcome, outcome, paintedOf, inked, drawnFrom, checkedDraw, drawOf}
+use Rattle.label.specs.Draw.{Outcome, outcome, tooMany, inked, drawnFrom, checkedDraw, drawBy, drawOf}
 use Rattle.claims.specs.OldContents.{wordsAfter, WordsAfter}
 
 -- ---- neither the checks nor the reading answer 13
@@ -117,24 +117,28 @@ After words o = o .words ≡ wordsAfter (o .answer) words
 refusing : (w : Refusal) (i : ℕ) (mask words : List ℕ) → Early w → After words (outcome (Refused w i) mask words)
 refusing w i mask words h = sym (ap (λ (b : Bool). cond b (replicate (length words) 0) words) h)
 
-inking : (l : Label) (mask words : List ℕ) (records : ℕ) (log : List Deposit) → After words (inked l mask words records log)
+inking : (full : Bool) (l : Label) (mask words : List ℕ) (cs : List Command) → After words (inked full l mask words cs)
 unfolding inked
-inking l mask words records log = pick (ltb (poolOf l (length words)) (distinct log))
-  where
-    pick : (b : Bool) → After words (cond b (outcome (Refused Full 0) mask (replicate (length words) 0)) (outcome (Drawn records (distinct log)) (paintedOf l log mask) (replicate (length words) 0)))
-    pick true = refl
-    pick false = refl
+inking true l mask words cs = refl
+inking false l mask words cs = refl
 
-drawing : (l : Label) (mask words : List ℕ) (r : Read) → EarlyRead r → After words (drawnFrom l mask words r)
-unfolding drawnFrom
-drawing l mask words (refused w i) h = refusing w i mask words h
-drawing l mask words (path cs) h = inking l mask words (length cs) (depositsOf (frameOf l) (strokesOf (l .transform) (l .offset) cs))
+-- ---- whatever rule 13 is
+module _ (full : List Command → Bool) (l : Label) (mask words : List ℕ) where
+  drawing : (r : Read) → EarlyRead r → After words (drawnFrom full l mask words r)
+  unfolding drawnFrom
+  drawing (refused w i) h = refusing w i mask words h
+  drawing (path cs) h = inking (full cs) l mask words cs
 
-checking : (v : Verdict) (l : Label) (s mask words : List ℕ) → EarlyVerdict v → After words (checkedDraw v l s mask words)
-unfolding checkedDraw
-checking (Faulty w) l s mask words h = refusing w 0 mask words (h .early w refl)
-checking Fine l s mask words h = drawing l mask words (readList (l .transform) (l .offset) s) (read (l .transform) (l .offset) s)
+  checking : (s : List ℕ) (v : Verdict) → EarlyVerdict v → After words (checkedDraw full v l s mask words)
+  unfolding checkedDraw
+  checking s (Faulty w) h = refusing w 0 mask words (h .early w refl)
+  checking s Fine h = drawing (readList (l .transform) (l .offset) s) (read (l .transform) (l .offset) s)
 
-pub words-after : WordsAfter
+pub words-after-by : (full : Label → ℕ → List Command → Bool) → WordsAfter (λ l s mask words. drawBy (full l (length words)) l s mask words)
+unfolding drawBy
+words-after-by full l s mask words =
+    checking (full l (length words)) l mask words s (checkedOf l (length s) (length mask) (length words)) (checked l (length s) (length mask) (length words))
+
+pub words-after : WordsAfter drawOf
 unfolding drawOf
-words-after l s mask words = checking (checkedOf l (length s) (length mask) (length words)) l s mask words (checked l (length s) (length mask) (length words))
+words-after = words-after-by tooMany

@@ -4,18 +4,15 @@ use mathlib.Core.Path.{_≡_}
 use mathlib.Core.Bool.{Bool}
 use mathlib.Core.List.{List, [], _∷_}
 use lib.ListN.{length, getD}
-use Rattle.storage.specs.Deposits.{Deposit}
 use Rattle.command.specs.declared.Command.{Command}
-use Rattle.raster.specs.Path.{depositsOf}
 use Rattle.sweep.specs.Masks.{rowAt}
 use Rattle.sweep.specs.Pixels.{pixel}
 use Rattle.path.specs.Reading.{path, readList}
-use Rattle.path.specs.Strokes.{strokesOf}
 use Rattle.label.specs.declared.Label.{Label}
 use Rattle.label.specs.declared.Answer.{Answer}
 use Rattle.label.specs.declared.Answer.the-variants.{Drawn}
 use Rattle.label.specs.Checks.{mostPitch, rows}
-use Rattle.label.specs.Draw.{Outcome, numbersOf, frameOf, drawOf}
+use Rattle.label.specs.Draw.{Outcome, numbersOf, logOf, drawOf}
 use Rattle.claims.specs.OldContents.{spotOf}
 
 -- the band [first, end) of a label; the whole label is band [0, height)
@@ -48,10 +45,6 @@ laid l up pitch = record {
   first = l .first;
   end = l .end;
 }
-
--- what a label's drawing stores of a list of commands
-abbrev pub logOf : Label → List Command → List Deposit
-logOf l cs = depositsOf (frameOf l) (strokesOf (l .transform) (l .offset) cs)
 
 -- the mask's byte of path row y and column x
 abbrev pub byteFor : Label → ℕ → ℕ → List ℕ → ℕ

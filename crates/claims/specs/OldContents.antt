@@ -1,5 +1,5 @@
 -- Document 01, "How much must be pinned": "Neither old mask bytes nor old workspace words may influence an answer, a written byte or a count", and
--- "Lent bytes and words that no rule names stay as they were". Of `drawOf`, for every label, list, mask and workspace.
+-- "Lent bytes and words that no rule names stay as they were". Of a rule of drawing, such as `drawOf`, for every label, list, mask and workspace.
 use Prim.Native.Nat.{ℕ, _+_, _*_, _<_}
 use mathlib.Core.Path.{_≡_}
 use mathlib.Core.Bool.{Bool, true, false, cond}
@@ -11,7 +11,11 @@ use Rattle.label.specs.declared.Label.{Label}
 use Rattle.label.specs.declared.Answer.{Answer}
 use Rattle.label.specs.declared.Answer.the-variants.{Drawn, Refused}
 use Rattle.label.specs.Checks.{rows}
-use Rattle.label.specs.Draw.{Outcome, drawOf}
+use Rattle.label.specs.Draw.{Outcome}
+
+-- a rule of drawing: the label, the list, the mask and the workspace
+abbrev pub Drawing : Type 0
+Drawing = Label → List ℕ → List ℕ → List ℕ → Outcome
 
 abbrev pub accepts : Answer → Bool
 accepts (Drawn records cells) = true
@@ -28,8 +32,8 @@ wipes (Refused why index) = eqb (numberOf why) 13
 abbrev pub wordsAfter : Answer → List ℕ → List ℕ
 wordsAfter a words = cond (wipes a) (replicate (length words) 0) words
 
-abbrev pub WordsAfter : Type 0
-WordsAfter = (l : Label) (s mask words : List ℕ) → drawOf l s mask words .words ≡ wordsAfter (drawOf l s mask words .answer) words
+abbrev pub WordsAfter : Drawing → Type 0
+WordsAfter draw = (l : Label) (s mask words : List ℕ) → draw l s mask words .words ≡ wordsAfter (draw l s mask words .answer) words
 
 -- two outcomes that are one, but for words that a refusal left
 pub record AlikeButWords (o o′ : Outcome) : Type 0 where
@@ -38,8 +42,8 @@ pub record AlikeButWords (o o′ : Outcome) : Type 0 where
   pub words : wipes (o .answer) ≡ true → o .words ≡ o′ .words
 
 -- as many words, of other contents
-abbrev pub OldWords : Type 0
-OldWords = (l : Label) (s mask words words′ : List ℕ) → length words ≡ length words′ → AlikeButWords (drawOf l s mask words) (drawOf l s mask words′)
+abbrev pub OldWords : Drawing → Type 0
+OldWords draw = (l : Label) (s mask words words′ : List ℕ) → length words ≡ length words′ → AlikeButWords (draw l s mask words) (draw l s mask words′)
 
 -- ---- the mask: the byte at column x of the band's line y
 abbrev pub spotOf : Label → ℕ → ℕ → ℕ
@@ -51,8 +55,8 @@ pub record MaskAfter (l : Label) (mask : List ℕ) (o : Outcome) : Type 0 where
   pub refused : accepts (o .answer) ≡ false → o .mask ≡ mask
   pub others : (i : ℕ) → i < length mask → ((y x : ℕ) → y < rows l → x < l .width → i ≡ spotOf l y x → ⊥) → getD (o .mask) i 0 ≡ getD mask i 0
 
-abbrev pub MasksAfter : Type 0
-MasksAfter = (l : Label) (s mask words : List ℕ) → MaskAfter l mask (drawOf l s mask words)
+abbrev pub MasksAfter : Drawing → Type 0
+MasksAfter draw = (l : Label) (s mask words : List ℕ) → MaskAfter l mask (draw l s mask words)
 
 -- two outcomes with one answer, the same words and the same written bytes
 pub record AlikeButMask (l : Label) (o o′ : Outcome) : Type 0 where
@@ -61,5 +65,5 @@ pub record AlikeButMask (l : Label) (o o′ : Outcome) : Type 0 where
   pub written : accepts (o .answer) ≡ true → (y x : ℕ) → y < rows l → x < l .width → getD (o .mask) (spotOf l y x) 0 ≡ getD (o′ .mask) (spotOf l y x) 0
 
 -- as many bytes, of other contents
-abbrev pub OldMask : Type 0
-OldMask = (l : Label) (s mask mask′ words : List ℕ) → length mask ≡ length mask′ → AlikeButMask l (drawOf l s mask words) (drawOf l s mask′ words)
+abbrev pub OldMask : Drawing → Type 0
+OldMask draw = (l : Label) (s mask mask′ words : List ℕ) → length mask ≡ length mask′ → AlikeButMask l (draw l s mask words) (draw l s mask′ words)

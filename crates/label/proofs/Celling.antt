@@ -10,66 +10,59 @@ use Rattle.storage.specs.declared.Kept.the-variants.{Cells, Full}
 use Rattle.storage.specs.Deposits.{distinct}
 use Rattle.storage.specs.Cells.{Holds}
 use Rattle.command.specs.declared.Command.{Command}
-use Rattle.raster.specs.Path.{depositsOf}
 use Rattle.path.specs.declared.Refusal.{Refusal}
 use Rattle.path.specs.declared.Refusal.the-variants as refusal
 use Rattle.path.specs.declared.Judged.the-variants as judged
 use Rattle.path.specs.declared.Verdict.the-variants.{Fine, Faulty}
 use Rattle.path.specs.Reading.{Read, path, refused, readList, judgedOf}
-use Rattle.path.specs.Strokes.{strokesOf}
 use Rattle.label.specs.declared.Label.{Label}
 use Rattle.label.specs.declared.Answer.{Answer}
 use Rattle.label.specs.declared.Answer.the-variants.{Drawn, Refused}
 use Rattle.label.specs.Checks.{rows, checkedOf}
-use Rattle.label.specs.Draw.{poolOf, frameOf, Outcome, outcome, inked, drawnFrom, drawOf}
+use Rattle.label.specs.Draw.{poolOf, Outcome, outcome, logOf, tooMany, inked, drawnFrom, drawOf}
 use Rattle.label.specs.Inking.{Sized, Poured, Inked, Celled}
-use Rattle.label.proofs.Pouring.{turned, faulty, drawn, drawn-is, inked-full}
-
-answered : {o o′ : Outcome} → o ≡ o′ → o .answer ≡ o′ .answer
-answered e = ap (λ (o : Outcome). o .answer) e
-
-never : {X : Type 0} {w : Refusal} {i r n : ℕ} → Refused w i ≡ Drawn r n → X
-never e = absurd (let z : _≡_ {A = ℕ} 0 1 = cc in omega arith)
+use Rattle.label.proofs.Pouring.{inked-full}
+use Rattle.label.proofs.Drawing.{answered, refused-not-drawn, draw-is, by-path, turned, drawn-from, faulty, drawn}
 
 module _ (l : Label) (s : List ℕ) (mask : ℕ) (words : List ℕ) where
   pub celled-turned : (w : Refusal) → checkedOf l (length s) mask (length words) ≡ Faulty w → Celled l s mask words words (Refused w 0)
-  celled-turned w e = record { told = λ m h. answered (turned l s m words w (rw h e)); held = λ r n p. never p }
+  celled-turned w e = record { told = λ m h. answered (turned (tooMany l (length words)) l s m words w (rw h e) ∙ draw-is l s m words); held = λ r n p. refused-not-drawn p }
 
   module _ (c : checkedOf l (length s) mask (length words) ≡ Fine) where
     fine : (m : List ℕ) → length m ≡ mask → checkedOf l (length s) (length m) (length words) ≡ Fine
     fine m h = rw h c
 
     pub celled-faulty : (w : Refusal) (i : ℕ) → judgedOf (readList (l .transform) (l .offset) s) ≡ judged.Refused w i → Celled l s mask words words (Refused w i)
-    celled-faulty w i e = record { told = λ m h. answered (faulty l s m words (fine m h) w i e); held = λ r n p. never p }
+    celled-faulty w i e = record { told = λ m h. answered (faulty (tooMany l (length words)) l s m words (fine m h) w i e ∙ draw-is l s m words); held = λ r n p. refused-not-drawn p }
 
     module _ (z : Sized l) (records : ℕ) (j : judgedOf (readList (l .transform) (l .offset) s) ≡ judged.Records records) (ws′ : List ℕ) (k : Kept) (p : Poured l s words ws′ k) where
       pub celled-full : k ≡ Full → Celled l s mask words ws′ (Refused refusal.Full 0)
       celled-full f = record {
-        told = λ m h. answered (drawn l s m words (fine m h) records _ j (inked-full l z records s m words ws′ k f p (replicate (length ws′) 0) refl));
-        held = λ r n q. never q;
+        told = λ m h. answered (drawn (tooMany l (length words)) l s m words (fine m h) records _ j (inked-full l z records s m words ws′ k f p (replicate (length ws′) 0) refl) ∙ draw-is l s m words);
+        held = λ r n q. refused-not-drawn q;
       }
 
       module _ (n : ℕ) (f : k ≡ Cells n) where
-        holds : (cs : List Command) → readList (l .transform) (l .offset) s ≡ path cs → Holds ws′ (rows l) (l .width) n (depositsOf (frameOf l) (strokesOf (l .transform) (l .offset) cs))
+        holds : (cs : List Command) → readList (l .transform) (l .offset) s ≡ path cs → Holds ws′ (rows l) (l .width) n (logOf l cs)
         holds cs a = rw f at (p .stored cs a)
 
-        inked-answer : (m : List ℕ) (cs : List Command) → readList (l .transform) (l .offset) s ≡ path cs
-            → Drawn records n ≡ inked l m words records (depositsOf (frameOf l) (strokesOf (l .transform) (l .offset) cs)) .answer
+        inked-answer : (m : List ℕ) (cs : List Command) → readList (l .transform) (l .offset) s ≡ path cs → records ≡ length cs → Drawn records n ≡ inked (tooMany l (length words) cs) l m words cs .answer
         unfolding inked
-        inked-answer m cs a =
-            let log = depositsOf (frameOf l) (strokesOf (l .transform) (l .offset) cs) in
+        inked-answer m cs a q =
+            let log = logOf l cs in
             let few : n ≤ poolOf l (length words) = rw f at (p .within) in
             let count : n ≡ distinct log = holds cs a .pool .counted in
             let no : distinct log ≤ poolOf l (length words) = omega arith in
-            rw (le-ltb _ _ no, ← count)
+            rw (le-ltb _ _ no, ← count, q)
 
-        read-answer : (m : List ℕ) (r : Read) → readList (l .transform) (l .offset) s ≡ r → judgedOf r ≡ judged.Records records → Drawn records n ≡ drawnFrom l m words r .answer
-        unfolding judgedOf drawnFrom
-        read-answer m (path cs) a e = let q : records ≡ length cs = cc in rw (← q) (inked-answer m cs a)
+        read-answer : (m : List ℕ) (r : Read) → readList (l .transform) (l .offset) s ≡ r → judgedOf r ≡ judged.Records records → Drawn records n ≡ drawnFrom (tooMany l (length words)) l m words r .answer
+        unfolding judgedOf
+        read-answer m (path cs) a e = let q : records ≡ length cs = cc in inked-answer m cs a q ∙ sym (answered (by-path (tooMany l (length words)) l m words cs))
         read-answer m (refused w i) a e = absurd (let z : _≡_ {A = ℕ} 0 1 = cc in omega arith)
 
         pub celled-cells : Celled l s mask words ws′ (Drawn records n)
         celled-cells = record {
-          told = λ m h. read-answer m (readList (l .transform) (l .offset) s) refl j ∙ answered (drawn-is l s m words (fine m h));
+          told = λ m h. read-answer m (readList (l .transform) (l .offset) s) refl j
+              ∙ answered (drawn-from (tooMany l (length words)) l s m words (fine m h) (readList (l .transform) (l .offset) s) refl ∙ draw-is l s m words);
           held = λ r n′ q cs a. let e : n′ ≡ n = cc in rw e (holds cs a);
         }

@@ -1,3 +1,4 @@
 pub mod Sizes
 pub mod Pouring
+pub mod Drawing
 mod Celling

@@ -13,25 +13,18 @@ use Rattle.storage.specs.Deposits.{Deposit, distinct}
 use Rattle.storage.specs.Cells.{Holds}
 use Rattle.storage.specs.Answers.{Within, Stored}
 use Rattle.storage.proofs.Pools.{cleared}
-use Rattle.command.specs.declared.Command.{Command}
 use Rattle.pen.specs.declared.Frame.{Frame}
 use Rattle.pen.specs.Marks.{deposits}
 use Rattle.pen.specs.Drawing.{rows as frameRows, width as frameWidth, Ready}
 use Rattle.raster.specs.Path.{depositsOf, marks}
 use Rattle.sweep.specs.Masks.{Fits, Swept}
 use Rattle.sweep.proofs.Mask.{mask-is}
-use Rattle.path.specs.declared.Refusal.{Refusal}
 use Rattle.path.specs.declared.Refusal.the-variants as refusal
-use Rattle.path.specs.declared.Judged.{Judged}
-use Rattle.path.specs.declared.Judged.the-variants as judged
-use Rattle.path.specs.declared.Verdict.the-variants.{Fine, Faulty}
-use Rattle.path.specs.Reading.{Read, path, refused, readList, judgedOf}
-use Rattle.path.specs.Strokes.{strokesOf, Traced}
+use Rattle.path.specs.Strokes.{Traced}
 use Rattle.label.specs.declared.Label.{Label}
-use Rattle.label.specs.declared.Answer.{Answer}
 use Rattle.label.specs.declared.Answer.the-variants.{Drawn, Refused}
-use Rattle.label.specs.Checks.{rows, checkedOf}
-use Rattle.label.specs.Draw.{poolOf, frameOf, Outcome, outcome, wiped, paintedOf, inked, drawnFrom, checkedDraw, drawOf}
+use Rattle.label.specs.Checks.{rows}
+use Rattle.label.specs.Draw.{poolOf, frameOf, outcome, wiped, paintedOf, logOf, tooMany, inked}
 use Rattle.label.specs.Inking.{Sized, Lent, Poured, Inked}
 
 moved : (ws : List ℕ) {n n′ w w′ : ℕ} (cap : ℕ) (log : List Deposit) (r : Kept) → n ≡ n′ → w ≡ w′ → Stored ws n w cap log r → Stored ws n′ w′ cap log r
@@ -89,28 +82,28 @@ module _ (l : Label) (z : Sized l) where
   -- ---- the outcome
   module _ (records : ℕ) (s mask ws ws′ : List ℕ) where
     pub inked-full : (k : Kept) → k ≡ Full → Poured l s ws ws′ k → (ws″ : List ℕ) → ws″ ≡ replicate (length ws′) 0
-        → Inked l records s mask ws (outcome (Refused refusal.Full 0) mask ws″)
+        → Inked (tooMany l (length ws)) l records s mask ws (outcome (Refused refusal.Full 0) mask ws″)
     unfolding inked
     inked-full k f p ws″ e =
         record {
-          rule = λ cs a.
-              let log = depositsOf (frameOf l) (strokesOf (l .transform) (l .offset) cs) in
+          rule = λ cs a m.
+              let log = logOf l cs in
               let more : poolOf l (length ws) < distinct log = rw f at (p .stored cs a) in
               rw (lt-ltb _ _ more, e, p .same);
         }
 
     pub inked-cells : (n : ℕ) (k : Kept) → k ≡ Cells n → Poured l s ws ws′ k → (mask′ : List ℕ) → Swept ws′ mask mask′ (rows l) n (l .width) (l .fill) (l .up) (l .pitch)
-        → (ws″ : List ℕ) → ws″ ≡ replicate (length ws′) 0 → Inked l records s mask ws (outcome (Drawn records n) mask′ ws″)
+        → (ws″ : List ℕ) → ws″ ≡ replicate (length ws′) 0 → Inked (tooMany l (length ws)) l records s mask ws (outcome (Drawn records n) mask′ ws″)
     unfolding inked paintedOf
     inked-cells n k f p mask′ w ws″ e =
         record {
-          rule = λ cs a.
-              let log = depositsOf (frameOf l) (strokesOf (l .transform) (l .offset) cs) in
+          rule = λ cs a m.
+              let log = logOf l cs in
               let holds : Holds ws′ (rows l) (l .width) n log = rw f at (p .stored cs a) in
               let few : n ≤ poolOf l (length ws) = rw f at (p .within) in
               let count : n ≡ distinct log = holds .pool .counted in
               let no : distinct log ≤ poolOf l (length ws) = omega arith in
-              rw (le-ltb _ _ no, e, p .same, ← count, mask-is (z .pitched) w holds);
+              rw (le-ltb _ _ no, e, p .same, m, ← count, mask-is (z .pitched) w holds);
         }
 
     -- the sizes that `sweep` asks
@@ -126,30 +119,3 @@ module _ (l : Label) (z : Sized l) where
           near = z .near;
           lines = t .lines;
         }
-
--- ---- the drawing, by its first answers
-module _ (l : Label) (s mask words : List ℕ) where
-  pub turned : (w : Refusal) → checkedOf l (length s) (length mask) (length words) ≡ Faulty w → outcome (Refused w 0) mask words ≡ drawOf l s mask words
-  unfolding drawOf checkedDraw
-  turned w e = rw e
-
-  module _ (c : checkedOf l (length s) (length mask) (length words) ≡ Fine) where
-    pub drawn-is : drawnFrom l mask words (readList (l .transform) (l .offset) s) ≡ drawOf l s mask words
-    unfolding drawOf checkedDraw
-    drawn-is = rw c
-
-    refuses : (r : Read) (w : Refusal) (i : ℕ) → judgedOf r ≡ judged.Refused w i → outcome (Refused w i) mask words ≡ drawnFrom l mask words r
-    unfolding judgedOf drawnFrom
-    refuses (refused w′ i′) w i e = let p : w ≡ w′ = cc in let q : i ≡ i′ = cc in rw (p, q)
-    refuses (path cs) w i e = absurd (let z : _≡_ {A = ℕ} 0 1 = cc in omega arith)
-
-    pub faulty : (w : Refusal) (i : ℕ) → judgedOf (readList (l .transform) (l .offset) s) ≡ judged.Refused w i → outcome (Refused w i) mask words ≡ drawOf l s mask words
-    faulty w i e = refuses (readList (l .transform) (l .offset) s) w i e ∙ drawn-is
-
-    accepts : (r : Read) (n : ℕ) (o : Outcome) → readList (l .transform) (l .offset) s ≡ r → judgedOf r ≡ judged.Records n → Inked l n s mask words o → o ≡ drawnFrom l mask words r
-    unfolding judgedOf drawnFrom
-    accepts (path cs) n o a e k = let p : n ≡ length cs = cc in rw (← p) (k .rule cs a)
-    accepts (refused w i) n o a e k = absurd (let z : _≡_ {A = ℕ} 0 1 = cc in omega arith)
-
-    pub drawn : (n : ℕ) (o : Outcome) → judgedOf (readList (l .transform) (l .offset) s) ≡ judged.Records n → Inked l n s mask words o → o ≡ drawOf l s mask words
-    drawn n o e k = accepts (readList (l .transform) (l .offset) s) n o refl e k ∙ drawn-is

@@ -1,10 +1,11 @@
 -- Document 01, "When a label is turned away" and "From cells to a byte": the whole outcome of a drawing.
 use Prim.Native.Nat.{ℕ, _+_, _-_, _/_, min}
-use mathlib.Core.Bool.{cond}
+use mathlib.Core.Bool.{Bool, cond}
 use mathlib.Core.List.{List}
 use lib.ListN.{length, replicate}
 use lib.Dec.{ltb}
 use Rattle.storage.specs.Deposits.{Deposit, distinct}
+use Rattle.command.specs.declared.Command.{Command}
 use Rattle.pen.specs.declared.Frame.{Frame}
 use Rattle.raster.specs.Path.{depositsOf}
 use Rattle.sweep.specs.Masks.{maskFrom}
@@ -52,28 +53,41 @@ paintedOf l log mask = maskFrom (l .fill) log (rows l) (l .width) (l .up) (l .pi
 abbrev pub wiped : List ℕ → List ℕ
 wiped words = replicate (length words) 0
 
--- 13, the drawing stores more distinct places than the pool holds; else the numbers of records and of cells, and the mask painted
-unfoldable pub inked : Label → List ℕ → List ℕ → ℕ → List Deposit → Outcome
-unfolding distinct paintedOf
-inked l mask words records log =
-    cond (ltb (poolOf l (length words)) (distinct log)) (outcome (Refused Full 0) mask (wiped words))
-    (outcome (Drawn records (distinct log)) (paintedOf l log mask) (wiped words))
+-- what a list's commands store
+abbrev pub logOf : Label → List Command → List Deposit
+logOf l cs = depositsOf (frameOf l) (strokesOf (l .transform) (l .offset) cs)
+
+-- 13: the drawing stores more distinct places than the pool holds
+abbrev pub tooMany : Label → ℕ → List Command → Bool
+tooMany l words cs = ltb (poolOf l words) (distinct (logOf l cs))
+
+-- 13 leaves the mask; else the numbers of records and of cells, and the mask painted
+unfoldable pub inked : Bool → Label → List ℕ → List ℕ → List Command → Outcome
+unfolding distinct depositsOf strokesOf paintedOf
+inked full l mask words cs =
+    cond full (outcome (Refused Full 0) mask (wiped words))
+    (outcome (Drawn (length cs) (distinct (logOf l cs))) (paintedOf l (logOf l cs) mask) (wiped words))
 
 -- a refusal leaves mask and workspace unchanged
 abbrev pub turnedAway : Refusal → ℕ → List ℕ → List ℕ → Outcome
 turnedAway why index mask words = outcome (Refused why index) mask words
 
-unfoldable pub drawnFrom : Label → List ℕ → List ℕ → Read → Outcome
-unfolding inked depositsOf strokesOf
-drawnFrom l mask words (refused why i) = turnedAway why i mask words
-drawnFrom l mask words (path cs) = inked l mask words (length cs) (depositsOf (frameOf l) (strokesOf (l .transform) (l .offset) cs))
+unfoldable pub drawnFrom : (List Command → Bool) → Label → List ℕ → List ℕ → Read → Outcome
+unfolding inked
+drawnFrom full l mask words (refused why i) = turnedAway why i mask words
+drawnFrom full l mask words (path cs) = inked (full cs) l mask words cs
 
-unfoldable pub checkedDraw : Verdict → Label → List ℕ → List ℕ → List ℕ → Outcome
+unfoldable pub checkedDraw : (List Command → Bool) → Verdict → Label → List ℕ → List ℕ → List ℕ → Outcome
 unfolding drawnFrom readList
-checkedDraw (Faulty why) l s mask words = turnedAway why 0 mask words
-checkedDraw Fine l s mask words = drawnFrom l mask words (readList (l .transform) (l .offset) s)
+checkedDraw full (Faulty why) l s mask words = turnedAway why 0 mask words
+checkedDraw full Fine l s mask words = drawnFrom full l mask words (readList (l .transform) (l .offset) s)
+
+-- the outcome of a drawing for which `full` is rule 13
+unfoldable pub drawBy : (List Command → Bool) → Label → List ℕ → List ℕ → List ℕ → Outcome
+unfolding checkedOf checkedDraw
+drawBy full l s mask words = checkedDraw full (checkedOf l (length s) (length mask) (length words)) l s mask words
 
 -- the outcome of a drawing: the label, the list, the mask and the workspace
 unfoldable pub drawOf : Label → List ℕ → List ℕ → List ℕ → Outcome
-unfolding checkedOf checkedDraw
-drawOf l s mask words = checkedDraw (checkedOf l (length s) (length mask) (length words)) l s mask words
+unfolding distinct depositsOf strokesOf drawBy
+drawOf l s mask words = drawBy (tooMany l (length words)) l s mask words

@@ -1,20 +1,19 @@
 -- What the inner functions of a drawing ask and promise.
 use Prim.Native.Nat.{ℕ, _+_, _*_, _-_, _≤_, _<_}
 use mathlib.Core.Path.{_≡_}
+use mathlib.Core.Bool.{Bool}
 use mathlib.Core.List.{List}
 use lib.ListN.{length}
 use Rattle.storage.specs.declared.Kept.{Kept}
 use Rattle.storage.specs.Cells.{Holds}
 use Rattle.storage.specs.Answers.{Within, Stored}
 use Rattle.command.specs.declared.Command.{Command}
-use Rattle.raster.specs.Path.{depositsOf}
 use Rattle.path.specs.Reading.{path, readList}
-use Rattle.path.specs.Strokes.{strokesOf}
 use Rattle.label.specs.declared.Label.{Label}
 use Rattle.label.specs.declared.Answer.{Answer}
 use Rattle.label.specs.declared.Answer.the-variants.{Drawn}
 use Rattle.label.specs.Checks.{mostPixels, mostPitch, rows}
-use Rattle.label.specs.Draw.{poolOf, frameOf, Outcome, inked, drawOf}
+use Rattle.label.specs.Draw.{poolOf, Outcome, logOf, inked, drawOf}
 
 -- a label that passes 1 to 3
 pub record Sized (l : Label) : Type 0 where
@@ -35,15 +34,14 @@ pub record Poured (l : Label) (s before after : List ℕ) (r : Kept) : Type 0 wh
   pub within : Within (poolOf l (length before)) r
   pub same : length after ≡ length before
   pub stored : (cs : List Command) → readList (l .transform) (l .offset) s ≡ path cs
-      → Stored after (rows l) (l .width) (poolOf l (length before)) (depositsOf (frameOf l) (strokesOf (l .transform) (l .offset) cs)) r
+      → Stored after (rows l) (l .width) (poolOf l (length before)) (logOf l cs) r
 
--- of an accepted list: the outcome is the rule's
-pub record Inked (l : Label) (records : ℕ) (s mask words : List ℕ) (o : Outcome) : Type 0 where
-  pub rule : (cs : List Command) → readList (l .transform) (l .offset) s ≡ path cs
-      → o ≡ inked l mask words records (depositsOf (frameOf l) (strokesOf (l .transform) (l .offset) cs))
+-- of an accepted list of so many records: the outcome is the rule's
+pub record Inked (full : List Command → Bool) (l : Label) (records : ℕ) (s mask words : List ℕ) (o : Outcome) : Type 0 where
+  pub rule : (cs : List Command) → readList (l .transform) (l .offset) s ≡ path cs → records ≡ length cs → o ≡ inked (full cs) l mask words cs
 
 -- `draw`'s answer for a mask of that length; where it is accepted the words hold what the strokes store
 pub record Celled (l : Label) (s : List ℕ) (mask : ℕ) (before after : List ℕ) (r : Answer) : Type 0 where
   pub told : (m : List ℕ) → length m ≡ mask → r ≡ drawOf l s m before .answer
   pub held : (records n : ℕ) → r ≡ Drawn records n → (cs : List Command) → readList (l .transform) (l .offset) s ≡ path cs
-      → Holds after (rows l) (l .width) n (depositsOf (frameOf l) (strokesOf (l .transform) (l .offset) cs))
+      → Holds after (rows l) (l .width) n (logOf l cs)

@@ -14,7 +14,7 @@ ghost use Prim.Native.Nat.{_+_, _*_, _-_, _/_, _<_, _≤_, min};
 ghost use lib.Dec.{ltb};
 ghost use lib.ListN.{length};
 ghost use Rattle.label.specs.Checks.{rows, sizesOf, checkedOf};
-ghost use Rattle.label.specs.Draw.{numbersOf, frameOf, outcome, drawOf};
+ghost use Rattle.label.specs.Draw.{numbersOf, frameOf, outcome, tooMany, drawOf};
 ghost use Rattle.label.specs.Inking.{Sized, Lent, Poured, Inked, Celled};
 
 // What a drawing takes besides list, mask and workspace. The band is the rows from first up to end.
@@ -162,7 +162,7 @@ pub fn pour(list: &[u8], l: Label, words: &mut [u32]) -> Kept
 // Draws an accepted list of so many records.
 fn ink(list: &[u8], l: Label, records: u32, mask: &mut [u8], words: &mut [u32]) -> Answer
     requires { ⌜ Sized l ⌝ ∗ ⌜ Lent l (length (now mask)) (length (now words)) ⌝ }
-    ensures { λ r. ⌜ Inked l records (now (list .entry)) (now (mask .entry)) (now (words .entry)) (outcome r (now (mask .exit)) (now (words .exit))) ⌝ }
+    ensures { λ r. ⌜ Inked (tooMany l (length (now (words .entry)))) l records (now (list .entry)) (now (mask .entry)) (now (words .entry)) (outcome r (now (mask .exit)) (now (words .exit))) ⌝ }
 {
     let rows = l.end - l.first;
     let fill = l.fill;

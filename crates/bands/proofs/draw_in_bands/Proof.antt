@@ -3,7 +3,8 @@ use mathlib.Core.Path.{sym, _∙_}
 use native.Mathlib.Omega.{arith}
 use lib.ListN.{length}
 use Rattle.label.proofs.Sizes.{fitting, short-list}
-use Rattle.bands.proofs.Whole.{turned, faulty, drawn, promised}
+use Rattle.label.proofs.Drawing.{turned, faulty, drawn}
+use Rattle.bands.proofs.Whole.{promised}
 use borrow.Author.Needs.{needs}
 use Rattle.bands.proofs.draw_in_bands.Statement.{statement}
 use Rattle.bands.proofs.draw_in_bands.Tie as tie
@@ -72,7 +73,7 @@ returns-3 c =
     let j = n .before .before in
     let e = j .before in
     promised _ _ _ _ _ _
-    (drawn _ _ _ _ _ (sym (e .before .before .check .ensures) ∙ e .enum-told .given .1) _ _ _ (r .rows-of .ensures) (sym (j .judge .ensures) ∙ n .n .given .1) (i .ink .ensures))
+    (drawn _ _ _ _ _ (sym (e .before .before .check .ensures) ∙ e .enum-told .given .1) _ _ (sym (j .judge .ensures) ∙ n .n .given .1) (rw (r .rows-of .ensures) at (i .ink .ensures)))
 
 pub draw-in-bands-spec : {M : Type 1} → statement M
 draw-in-bands-spec =

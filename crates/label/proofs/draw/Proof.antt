@@ -2,7 +2,7 @@
 use mathlib.Core.Path.{sym, _∙_}
 use lib.ListN.{length}
 use Rattle.label.proofs.Sizes.{fitting, short-list}
-use Rattle.label.proofs.Pouring.{turned, faulty, drawn}
+use Rattle.label.proofs.Drawing.{draw-is, turned, faulty, drawn}
 use borrow.Author.Needs.{needs}
 use Rattle.label.proofs.draw.Statement.{statement}
 use Rattle.label.proofs.draw.Tie as tie
@@ -44,13 +44,13 @@ ink-requires c κs =
 returns : tie.Need-returns
 returns c =
     let k = c .before .before .before in
-    turned _ _ _ _ _ (sym (k .check .ensures) ∙ c .before .why .given .1)
+    turned _ _ _ _ _ _ (sym (k .check .ensures) ∙ c .before .why .given .1) ∙ draw-is _ _ _ _
 
 returns-2 : tie.Need-returns-2
 returns-2 c =
     let j = c .before .before .before in
     let e = j .before in
-    faulty _ _ _ _ (sym (e .before .before .check .ensures) ∙ e .enum-told .given .1) _ _ (sym (j .judge .ensures) ∙ c .before .why2 .given .1)
+    faulty _ _ _ _ _ (sym (e .before .before .check .ensures) ∙ e .enum-told .given .1) _ _ (sym (j .judge .ensures) ∙ c .before .why2 .given .1) ∙ draw-is _ _ _ _
 
 same-length : tie.Need-same-length
 same-length c = search needs
@@ -64,7 +64,7 @@ returns-3 c =
     let n = i .before .before .before .before in
     let j = n .before .before in
     let e = j .before in
-    drawn _ _ _ _ (sym (e .before .before .check .ensures) ∙ e .enum-told .given .1) _ _ (sym (j .judge .ensures) ∙ n .n .given .1) (i .ink .ensures)
+    drawn _ _ _ _ _ (sym (e .before .before .check .ensures) ∙ e .enum-told .given .1) _ _ (sym (j .judge .ensures) ∙ n .n .given .1) (i .ink .ensures) ∙ draw-is _ _ _ _
 
 pub draw-spec : {M : Type 1} → statement M
 draw-spec =
