@@ -7,7 +7,8 @@ use lib.ListN.{replicate}
 use Rattle.sweep.specs.declared.Fill.the-variants.{NonZero}
 use Rattle.label.specs.declared.Label.{Label}
 use Rattle.label.specs.Draw.{drawOf}
-use Rattle.claims.specs.Lists.{corners, move, n0, n1, n2, n3, label, banded, Told, drawn, full, turned, seen, wanted, Draws}
+use Rattle.list.specs.Written.{move}
+use Rattle.claims.specs.Lists.{corners, n0, n1, n2, n3, label, banded, Told, drawn, full, turned, seen, wanted, Draws}
 use Rattle.bands.specs.InBands.{drawInBandsOf}
 
 -- bands of so many rows

@@ -1,15 +1,17 @@
 -- Curves: one with every point past one band edge has all its lines there, so that the rule that skips lines skips them already.
 use Prim.Native.Nat.{ℕ, _≤_, _<_}
 use mathlib.Core.Path.{_≡_, refl, sym}
-use mathlib.Core.Bool.{Bool, true, false, cond, _&&_, _||_}
+use mathlib.Core.Bool.{Bool, true, false, cond, _&&_, _||_, false≢true}
 use mathlib.Core.List.{List, [], _∷_, _++_}
 use borrow.Author.Tests.{leb-true, ltb-true}
 use Rattle.fixed.specs.declared.FixedPoint.{FixedPoint}
 use Rattle.fixed.specs.Fixed.{cell}
+use Rattle.fixed.proofs.Range.{past-kept, ahead-kept}
 use Rattle.pen.specs.declared.Frame.{Frame}
 use Rattle.pen.specs.Marks.{Mark, after}
 use Rattle.line.specs.Range.{Reach}
 use Rattle.line.specs.Lines.{ends, skips, past, ahead, along}
+use Rattle.line.proofs.Tests.{both-true}
 use Rattle.line.proofs.Cases.{skips-past, skips-ahead, marks-skipped, line-is}
 use Rattle.quad.specs.Quads.{quadPoints, quadMarks}
 use Rattle.quad.proofs.Points as quads
@@ -17,7 +19,6 @@ use Rattle.cubic.specs.Cubics.{cubicPoints, cubicMarks}
 use Rattle.cubic.specs.Depth.{Each, none, more, endOf}
 use Rattle.cubic.proofs.Points as cubics
 use Rattle.claims.specs.Ink.{alongAll}
-use Rattle.claims.proofs.Tests.{never, both-true}
 use Rattle.claims.proofs.Economy.{Economy, economy-all, economy-join, economy-line}
 
 each-of : {P : FixedPoint → Type 0} (ps : List FixedPoint) → quads.Each P ps → Each P ps
@@ -26,7 +27,7 @@ each-of (p ∷ ps) h = more (h .0) (each-of ps (h .1))
 
 first : (x y z w : Bool) → (x && y && z && w) ≡ true → x ≡ true
 first true y z w e = refl
-first false y z w e = never e
+first false y z w e = absurd (false≢true e)
 
 module _ (f : Frame) where
   -- ---- lines that are all skipped
@@ -64,13 +65,13 @@ module _ (f : Frame) where
     quad-past e =
         let h = both-true (past f (a .y) && past f (c .y)) (past f (b .y)) e in
         let g = both-true (past f (a .y)) (past f (c .y)) (h .0) in
-        past-none a (is-past a (g .0)) (each-of (quadPoints a c b) (quads.points-keep Past (quads.past-kept (f .end)) a c b (is-past a (g .0)) (is-past c (g .1)) (is-past b (h .1))))
+        past-none a (is-past a (g .0)) (each-of (quadPoints a c b) (quads.points-keep Past (past-kept (f .end)) a c b (is-past a (g .0)) (is-past c (g .1)) (is-past b (h .1))))
 
     quad-ahead : (ahead f (a .y) && ahead f (c .y) && ahead f (b .y)) ≡ true → along f a (quadPoints a c b) ≡ []
     quad-ahead e =
         let h = both-true (ahead f (a .y) && ahead f (c .y)) (ahead f (b .y)) e in
         let g = both-true (ahead f (a .y)) (ahead f (c .y)) (h .0) in
-        ahead-none a (is-ahead a (g .0)) (each-of (quadPoints a c b) (quads.points-keep Ahead (quads.ahead-kept (f .first)) a c b (is-ahead a (g .0)) (is-ahead c (g .1)) (is-ahead b (h .1))))
+        ahead-none a (is-ahead a (g .0)) (each-of (quadPoints a c b) (quads.points-keep Ahead (ahead-kept (f .first)) a c b (is-ahead a (g .0)) (is-ahead c (g .1)) (is-ahead b (h .1))))
 
     pub quad-along : quadMarks f a c b ≡ along f a (quadPoints a c b)
     unfolding quadMarks

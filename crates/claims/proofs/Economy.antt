@@ -5,64 +5,39 @@ use mathlib.Core.Path.{_≡_, refl, sym, ap, _∙_}
 use mathlib.Core.Bool.{Bool, true, false, not, _&&_}
 use mathlib.Core.List.{List, [], _∷_, _++_, append-assoc}
 use mathlib.Core.Logic.{_⊎_, inl, inr}
-use lib.Dec.{eqb, leb, ltb}
-use borrow.Author.Tests.{le-ltb, lt-leb}
 use Rattle.fixed.specs.declared.FixedPoint.{FixedPoint}
 use Rattle.fixed.specs.Fixed.{cell}
 use Rattle.pen.specs.declared.Frame.{Frame}
-use Rattle.pen.specs.Marks.{Mark, enter, give, Stand, nowhere, at, gave, after, Pair, pairOf, when, leaving, left, lastOf, inside, seen}
-use Rattle.pen.specs.Laws.{after-append, left-append, seen-append}
+use Rattle.pen.specs.Marks.{Mark, enter, give, Stand, nowhere, at, gave, after, Pair, leaving, left, lastOf, whole, seen}
+use Rattle.pen.specs.Laws.{after-append, whole-append, seen-append}
 use Rattle.line.specs.Range.{Reach}
 use Rattle.line.specs.Lines.{ends, lineAll, skips, lineMarks}
 use Rattle.line.specs.Trail.{StandsIn, Enters, none, gives, Outside}
-use Rattle.line.proofs.Tests.{and-false}
 use Rattle.line.proofs.Whole.{line-ends, line-none, line-whole, line-outside, line-skipped}
-use Rattle.line.proofs.Unseen.{StandsOutside, unseen-left, unseen-after}
-use Rattle.claims.specs.Ink.{leftBy}
-
-pub by-append : (s : Stand) (xs ys : List Mark) → leftBy s (xs ++ ys) ≡ left s xs ++ leftBy (after s xs) ys
-unfolding leftBy
-by-append s xs ys = rw (left-append, after-append, append-assoc)
+use Rattle.line.proofs.Unseen.{StandsOutside, not-inside, gave-outside, leaving-unseen, unseen-left, unseen-after}
 
 -- ---- a pen outside the band
 module _ (f : Frame) where
-  not-inside : (c r v a : ℕ) → Outside f c r → inside f (pairOf c r v a) ≡ false
-  not-inside c r v a (inl h) = rw (le-ltb r (f .end) h) (and-false (ltb c (f .wide) && leb (f .first) r))
-  not-inside c r v a (inr h) = rw (lt-leb (f .first) r h, and-false (ltb c (f .wide)))
-
   last-unseen : (s : Stand) → StandsOutside f s → seen f (lastOf s) ≡ []
   unfolding seen
   last-unseen nowhere o = refl
-  last-unseen (at c r v a) o = rw (not-inside c r v a o)
-
-  leaving-unseen : (s : Stand) → StandsOutside f s → seen f (leaving s) ≡ []
-  unfolding seen
-  leaving-unseen nowhere o = refl
-  leaving-unseen (at c r v a) o = go (not (eqb v 0 && eqb a 0))
-    where
-      go : (t : Bool) → seen f (when t (pairOf c r v a) []) ≡ []
-      go true = last-unseen (at c r v a) o
-      go false = refl
-
-  gave-outside : (s : Stand) (v a : ℕ) → StandsOutside f s → StandsOutside f (gave s v a)
-  unfolding after
-  gave-outside s v a o = unseen-after f (gives {v = v} {a = a} none) s o
+  last-unseen (at c r v a) o = rw (not-inside f c r v a o)
 
   -- a stale cell never shows
-  pub stale : (ms : List Mark) (s : Stand) → StandsOutside f s → seen f (leftBy s ms) ≡ seen f (leftBy nowhere ms)
-  unfolding leftBy left after
+  pub stale : (ms : List Mark) (s : Stand) → StandsOutside f s → seen f (whole s ms) ≡ seen f (whole nowhere ms)
+  unfolding left after
   stale [] s o = last-unseen s o ∙ sym (last-unseen nowhere tt)
   stale (enter c r ∷ ms) s o = drop (left (at c r 0 0) ms) (lastOf (after (at c r 0 0) ms))
     where
       drop : (xs ys : List Pair) → seen f ((leaving s ++ xs) ++ ys) ≡ seen f (xs ++ ys)
-      drop xs ys = rw (append-assoc (leaving s) xs ys) (seen-append f (leaving s) (xs ++ ys) ∙ rw (leaving-unseen s o))
-  stale (give v a ∷ ms) s o = stale ms (gave s v a) (gave-outside s v a o)
+      drop xs ys = rw (append-assoc (leaving s) xs ys) (seen-append f (leaving s) (xs ++ ys) ∙ rw (leaving-unseen f s o))
+  stale (give v a ∷ ms) s o = stale ms (gave s v a) (gave-outside f s v a o)
 
   -- marks in rows outside the band can be left out
-  pub skipped : {ns : List Mark} → Enters (Outside f) ns → (s : Stand) (ys : List Mark) → StandsOutside f s → seen f (leftBy s ys) ≡ seen f (leftBy s (ns ++ ys))
+  pub skipped : {ns : List Mark} → Enters (Outside f) ns → (s : Stand) (ys : List Mark) → StandsOutside f s → seen f (whole s ys) ≡ seen f (whole s (ns ++ ys))
   skipped {ns} e s ys o =
       stale ys s o ∙ sym (stale ys (after s ns) (unseen-after f e s o))
-      ∙ sym (rw (by-append s ns ys) (seen-append f (left s ns) (leftBy (after s ns) ys) ∙ rw (unseen-left f e s o)))
+      ∙ sym (rw (whole-append s ns ys) (seen-append f (left s ns) (whole (after s ns) ys) ∙ rw (unseen-left f e s o)))
 
 -- ---- a pen that makes all marks is in the cell of the pen point, or in none yet
 abbrev pub Follows : Stand → FixedPoint → Type 0
@@ -98,13 +73,13 @@ line-follows a b ra rb nowhere h = go (from-nowhere (lineAll a b) there)
 -- ---- the marks ms save what the band does not see of the marks ns, which go from a to b
 pub record Economy (f : Frame) (a b : FixedPoint) (ms ns : List Mark) : Type 0 where
   pub goes : (s : Stand) → Follows s a → Follows (after s ns) b
-  pub same : (s : Stand) (ys : List Mark) → Follows s a → seen f (leftBy s (ms ++ ys)) ≡ seen f (leftBy s (ns ++ ys))
+  pub same : (s : Stand) (ys : List Mark) → Follows s a → seen f (whole s (ms ++ ys)) ≡ seen f (whole s (ns ++ ys))
 
 module _ (f : Frame) where
-  pub behind : (s : Stand) (ns xs ys : List Mark) → seen f (leftBy (after s ns) xs) ≡ seen f (leftBy (after s ns) ys) → seen f (leftBy s (ns ++ xs)) ≡ seen f (leftBy s (ns ++ ys))
+  pub behind : (s : Stand) (ns xs ys : List Mark) → seen f (whole (after s ns) xs) ≡ seen f (whole (after s ns) ys) → seen f (whole s (ns ++ xs)) ≡ seen f (whole s (ns ++ ys))
   behind s ns xs ys e =
-      rw (by-append s ns xs, by-append s ns ys)
-      (seen-append f (left s ns) (leftBy (after s ns) xs) ∙ ap (λ z. seen f (left s ns) ++ z) e ∙ sym (seen-append f (left s ns) (leftBy (after s ns) ys)))
+      rw (whole-append s ns xs, whole-append s ns ys)
+      (seen-append f (left s ns) (whole (after s ns) xs) ∙ ap (λ z. seen f (left s ns) ++ z) e ∙ sym (seen-append f (left s ns) (whole (after s ns) ys)))
 
   pub economy-all : {a b : FixedPoint} {ns : List Mark} → ((s : Stand) → Follows s a → Follows (after s ns) b) → Economy f a b ns ns
   economy-all g = record { goes = g; same = λ s ys h. refl }

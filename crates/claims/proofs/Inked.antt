@@ -3,7 +3,7 @@ use mathlib.Core.Path.{_≡_, refl, _∙_}
 use mathlib.Core.List.{List, [], _∷_, _++_, append-nil}
 use Rattle.fixed.specs.declared.FixedPoint.{FixedPoint}
 use Rattle.pen.specs.declared.Frame.{Frame}
-use Rattle.pen.specs.Marks.{Stand, nowhere, after, seen, deposits}
+use Rattle.pen.specs.Marks.{Stand, nowhere, after, seen, deposits, whole}
 use Rattle.line.specs.Range.{Reach}
 use Rattle.line.specs.Lines.{lineAll}
 use Rattle.raster.specs.declared.Stroke.{Stroke}
@@ -12,7 +12,7 @@ use Rattle.raster.specs.Path.{corner, strokeMarks, pointAfter, startAfter, mark
 use Rattle.raster.specs.Tracing.{ReachAll}
 use Rattle.raster.proofs.Told.{marks-end, marks-stroke, reach-point, reach-start}
 use Rattle.path.proofs.Points.{corner-near}
-use Rattle.claims.specs.Ink.{strokeAll, inkFrom, leftBy, ink, AllReach}
+use Rattle.claims.specs.Ink.{strokeAll, inkFrom, ink, AllReach}
 use Rattle.claims.proofs.Economy.{Follows, Economy, behind, economy-all, economy-join, economy-line}
 use Rattle.claims.proofs.Curves.{economy-quad, economy-cubic}
 
@@ -34,7 +34,7 @@ module _ (f : Frame) where
   ink-stroke a s k ks = refl
 
   ink-from : (a s : FixedPoint) (ks : List Stroke) → Reach a → Reach s → AllReach ks → (st : Stand) → Follows st a
-      → seen f (leftBy st (marksFrom f a s ks)) ≡ seen f (leftBy st (inkFrom a s ks))
+      → seen f (whole st (marksFrom f a s ks)) ≡ seen f (whole st (inkFrom a s ks))
   ink-from a s [] ra rs rk st h = rw (marks-end f a s, ink-end a s) (simp append-nil at (economy-line f a s ra rs .same st [] h))
   ink-from a s (k ∷ ks) ra rs rk st h =
       let e = economy-stroke a s k ra rs (rk .0) in
@@ -43,11 +43,11 @@ module _ (f : Frame) where
       ∙ behind f st (strokeAll a s k) (marksFrom f (pointAfter s k) (startAfter s k) ks) (inkFrom (pointAfter s k) (startAfter s k) ks)
       (ink-from (pointAfter s k) (startAfter s k) ks (reach-point s k rs (rk .0)) (reach-start s k rs (rk .0)) (rk .1) (after st (strokeAll a s k)) (e .goes st h)))
 
-  deposits-left : (ks : List Stroke) → depositsOf f ks ≡ seen f (leftBy nowhere (marksFrom f corner corner ks))
-  unfolding depositsOf deposits marks leftBy
+  deposits-left : (ks : List Stroke) → depositsOf f ks ≡ seen f (whole nowhere (marksFrom f corner corner ks))
+  unfolding depositsOf deposits marks
   deposits-left ks = refl
 
-  ink-left : (ks : List Stroke) → ink ks ≡ leftBy nowhere (inkFrom corner corner ks)
+  ink-left : (ks : List Stroke) → ink ks ≡ whole nowhere (inkFrom corner corner ks)
   unfolding ink
   ink-left ks = refl
 

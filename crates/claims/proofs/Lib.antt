@@ -4,7 +4,6 @@ pub mod Painted
 pub mod OldMask
 pub mod OneOutcome
 pub mod OneLeaf
-pub mod Tests
 pub mod Economy
 pub mod Curves
 pub mod Inked

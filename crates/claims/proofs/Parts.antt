@@ -1,14 +1,21 @@
 -- Parts of a log: what is known in them, how many places they have, and what they sum to.
 use Prim.Native.Nat.{ℕ, _+_, _-_, _≤_, _<_}
 use mathlib.Core.Path.{_≡_, refl, sym, ap, _∙_}
-use mathlib.Core.Bool.{Bool, true, false, not, _&&_, _||_}
+use mathlib.Core.Bool.{Bool, true, false, not, _&&_, _||_, false≢true}
 use mathlib.Core.List.{List, [], _∷_}
 use native.Mathlib.Omega.{arith}
 use lib.Dec.{eqb, leb, ltb}
 use borrow.Author.Tests.{leb-true, ltb-true, ltb-false, le-leb, lt-ltb, eqb-true, eq-eqb, ne-eqb}
 use Rattle.storage.specs.Deposits.{Deposit, on, known, distinct, total}
-use Rattle.claims.proofs.Tests.{never, same-test, both-true}
+use Rattle.line.proofs.Tests.{both-true}
 use Rattle.claims.specs.Parts.{among, from, part}
+
+-- two tests that hold together are one
+pub same-test : (x y : Bool) → (x ≡ true → y ≡ true) → (y ≡ true → x ≡ true) → x ≡ y
+same-test true true h g = refl
+same-test false false h g = refl
+same-test true false h g = absurd (false≢true (h refl))
+same-test false true h g = absurd (false≢true (g refl))
 
 -- ---- tests of places
 pub record Among (lo hi p : ℕ) : Type 0 where
@@ -30,7 +37,7 @@ module _ (lo hi p : ℕ) where
       go false e = e
 
   pub not-among : among lo hi p ≡ false → Among lo hi p → ⊥
-  not-among e h = never (sym e ∙ among-is h)
+  not-among e h = false≢true (sym e ∙ among-is h)
 
 -- ---- one deposit more
 module _ (lo hi : ℕ) (d : Deposit) (ds : List Deposit) where

@@ -1,7 +1,7 @@
 -- A band's log is the whole's, with the other rows dropped and its own counted from its first; so a band's pixel is the whole's.
 use Prim.Native.Nat.{ℕ, _+_, _-_, _*_, _%_, _^_, _≤_, _<_}
 use mathlib.Core.Path.{_≡_, refl, sym, ap, _∙_}
-use mathlib.Core.Bool.{Bool, true, false, _&&_}
+use mathlib.Core.Bool.{Bool, true, false, _&&_, false≢true}
 use mathlib.Core.List.{List, [], _∷_}
 use native.Mathlib.Omega.{arith}
 use lib.Dec.{eqb, leb, ltb}
@@ -13,8 +13,8 @@ use Rattle.pen.specs.Marks.{Pair, inside, placed, seen}
 use Rattle.sweep.specs.declared.Fill.{Fill}
 use Rattle.sweep.specs.Pixels.{byteOf, signed, coverUpTo, areaAt, pixel}
 use Rattle.claims.specs.Parts.{from, band, frame}
-use Rattle.claims.proofs.Tests.{never, same-test, both-true}
-use Rattle.claims.proofs.Parts.{Among, among-is, among-not, part-in, part-out, part-none, total-part}
+use Rattle.line.proofs.Tests.{both-true}
+use Rattle.claims.proofs.Parts.{same-test, Among, among-is, among-not, part-in, part-out, part-none, total-part}
 
 -- ---- what is seen
 -- a pair in the columns and rows of the band [first, end)
@@ -78,7 +78,7 @@ module _ (width first end height : ℕ) (narrow : width ≤ 4096) (low : end ≤
           rw (seen-in own d ds e, seen-in whole d ds k, part-in (perRow * first) (perRow * end) (placed whole d) (seen whole ds) m, placed-from d h, rest)
       go rest false true e g =
           let h = is-inside width 0 height d g in
-          let m = among-not (perRow * first) (perRow * end) (placed whole d .place) (λ k. never (sym e ∙ inside-is width first end d (place-back d h k))) in
+          let m = among-not (perRow * first) (perRow * end) (placed whole d .place) (λ k. false≢true (sym e ∙ inside-is width first end d (place-back d h k))) in
           rw (seen-out own d ds e, seen-in whole d ds g, part-out (perRow * first) (perRow * end) (placed whole d) (seen whole ds) m) rest
       go rest false false e g = rw (seen-out own d ds e, seen-out whole d ds g) rest
 
@@ -114,7 +114,7 @@ module _ (first end r x : ℕ) (inner : first + r < end) (slim : x < 4096) (log 
   upTo-out p n =
       same-test (upTo (first + r) p) false
       (λ e. let g = is-upTo (first + r) p e in absurd (n (record { low = omega (arith, g .from-row); high = omega (arith, g .to-x) })))
-      (λ e. never e)
+      (λ e. absurd (false≢true e))
 
   cover-band : coverUpTo (band first end log) r x ≡ coverUpTo log (first + r) x
   cover-band =

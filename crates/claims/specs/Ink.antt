@@ -2,7 +2,7 @@
 use mathlib.Core.List.{List, [], _∷_, _++_}
 use Rattle.fixed.specs.declared.FixedPoint.{FixedPoint}
 use Rattle.fixed.specs.Fixed.{cell}
-use Rattle.pen.specs.Marks.{Mark, enter, Stand, nowhere, after, Pair, left, lastOf}
+use Rattle.pen.specs.Marks.{Mark, enter, nowhere, after, Pair, left, whole}
 use Rattle.line.specs.Lines.{marksOf, lineAll}
 use Rattle.quad.specs.Quads.{quadPoints}
 use Rattle.cubic.specs.Cubics.{cubicPoints}
@@ -32,14 +32,9 @@ unfolding strokeAll
 inkFrom a s [] = lineAll a s
 inkFrom a s (k ∷ ks) = strokeAll a s k ++ inkFrom (pointAfter s k) (startAfter s k) ks
 
--- what a pen that makes the marks leaves, its last cell too
-unfoldable pub leftBy : Stand → List Mark → List Pair
-unfolding left after
-leftBy s ms = left s ms ++ lastOf (after s ms)
-
 unfoldable pub ink : List Stroke → List Pair
-unfolding inkFrom leftBy
-ink ks = leftBy nowhere (inkFrom corner corner ks)
+unfolding inkFrom left after
+ink ks = whole nowhere (inkFrom corner corner ks)
 
 -- every point of the strokes is within reach
 abbrev pub AllReach : List Stroke → Type 0

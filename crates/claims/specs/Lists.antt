@@ -1,13 +1,13 @@
 -- Path lists by their records, labels, and a row of a table: what is drawn, and what is to come of it.
-use Prim.Native.Nat.{ℕ, _/_, _%_}
+use Prim.Native.Nat.{ℕ}
 use mathlib.Core.Path.{_≡_}
 use mathlib.Core.Bool.{Bool, false}
 use mathlib.Core.List.{List, [], _∷_, _++_}
 use lib.ListN.{replicate}
-use lib.Ieee.{Float, binary32, ofBits}
-use Rattle.geometry.specs.declared.Point.{Point}
 use Rattle.geometry.specs.declared.Transform.{Transform}
-use Rattle.geometry.specs.Affine.{pointOf, identityOf}
+use Rattle.geometry.specs.Affine.{identityOf}
+use Rattle.geometry.specs.Bits.{at}
+use Rattle.list.specs.Written.{move, line, close}
 use Rattle.sweep.specs.declared.Fill.{Fill}
 use Rattle.sweep.specs.declared.Fill.the-variants.{NonZero}
 use Rattle.label.specs.declared.Label.{Label}
@@ -15,30 +15,6 @@ use Rattle.label.specs.declared.Numbers.{Numbers}
 use Rattle.label.specs.Draw.{numbersOf, Outcome, drawOf}
 
 -- ---- coordinates and records, by their bits
-abbrev pub float : ℕ → Float
-float w = ofBits binary32 w
-
-abbrev pub at : ℕ → ℕ → Point
-at x y = pointOf (float x) (float y)
-
-abbrev pub four : ℕ → List ℕ
-four w = w % 256 ∷ w / 0x100 % 256 ∷ w / 0x1_0000 % 256 ∷ w / 0x100_0000 ∷ []
-
-abbrev pub move : ℕ → ℕ → List ℕ
-move x y = 0x0A ∷ 0x00 ∷ 0x01 ∷ 0x00 ∷ four x ++ four y
-
-abbrev pub line : ℕ → ℕ → List ℕ
-line x y = 0x0A ∷ 0x00 ∷ 0x02 ∷ 0x00 ∷ four x ++ four y
-
-abbrev pub quad : ℕ → ℕ → ℕ → ℕ → List ℕ
-quad a b x y = 0x12 ∷ 0x00 ∷ 0x03 ∷ 0x00 ∷ four a ++ four b ++ four x ++ four y
-
-abbrev pub curve : ℕ → ℕ → ℕ → ℕ → ℕ → ℕ → List ℕ
-curve a b c d x y = 0x1A ∷ 0x00 ∷ 0x04 ∷ 0x00 ∷ four a ++ four b ++ four c ++ four d ++ four x ++ four y
-
-abbrev pub close : List ℕ
-close = 0x02 ∷ 0x00 ∷ 0x05 ∷ 0x00 ∷ []
-
 -- four corners, closed
 abbrev pub corners : ℕ → ℕ → ℕ → ℕ → ℕ → ℕ → ℕ → ℕ → List ℕ
 corners a b c d e f g h = move a b ++ line c d ++ line e f ++ line g h ++ close

@@ -10,7 +10,9 @@ use Rattle.sweep.specs.Pixels.{byteOf}
 use Rattle.placing.specs.Placing.{laidOf}
 use Rattle.placing.specs.Numbers.{placeNumbersOf}
 use Rattle.label.specs.Draw.{drawOf}
-use Rattle.claims.specs.Lists.{float, at, move, line, close, corners, n0, n0·25, n0·5, n1, n1·5, n2, n3, n3·25, n9, −1, −5, label, drawn, full, Draws}
+use Rattle.geometry.specs.Bits.{float, at}
+use Rattle.list.specs.Written.{move, line, close}
+use Rattle.claims.specs.Lists.{corners, n0, n0·25, n0·5, n1, n1·5, n2, n3, n3·25, n9, −1, −5, label, drawn, full, Draws}
 
 pub record Table : Type 0 where
   -- K1: rectangle (1,1) (3,1) (3,2) (1,2), 4×3

@@ -12,7 +12,9 @@ use Rattle.sweep.specs.declared.Fill.the-variants.{NonZero, EvenOdd}
 use Rattle.placing.specs.Placing.{boundsOf, laidOf}
 use Rattle.placing.specs.Numbers.{boxNumbersOf, placeNumbersOf}
 use Rattle.label.specs.Draw.{drawOf}
-use Rattle.claims.specs.Lists.{float, at, move, line, quad, curve, close, corners, n0, n0·25, n0·5, n0·75, n1, n2, n3, n3·25, n4, n6, n8, n2048, n2048·004, infinite, nan, −0·5, −1, −4, −9, banded, label, under, drawn, full, turned, Draws}
+use Rattle.geometry.specs.Bits.{float, at}
+use Rattle.list.specs.Written.{move, line, quad, curve, close}
+use Rattle.claims.specs.Lists.{corners, n0, n0·25, n0·5, n0·75, n1, n2, n3, n3·25, n4, n6, n8, n2048, n2048·004, infinite, nan, −0·5, −1, −4, −9, banded, label, under, drawn, full, turned, Draws}
 
 -- K1's list and mask
 abbrev rectangle : List ℕ

@@ -5,7 +5,8 @@ use mathlib.Core.Path.{_≡_}
 use mathlib.Core.Bool.{false}
 use native.Mathlib.Omega.{arith}
 use borrow.Author.Tests.{le-ltb}
-use Rattle.cubic.specs.Cubics.{apart, far, bent}
+use Rattle.fixed.specs.Fixed.{apart}
+use Rattle.cubic.specs.Cubics.{far, bent}
 
 -- |x − 2y + z|
 unfoldable pub bend : ℕ → ℕ → ℕ → ℕ

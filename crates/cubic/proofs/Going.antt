@@ -17,11 +17,11 @@ use Rattle.pen.specs.Drawing.{Drew}
 use Rattle.pen.proofs.Adding.{drew-then, drew-none}
 use Rattle.line.specs.Range.{Reach}
 use Rattle.line.specs.Lines.{lineMarks, along}
+use Rattle.line.proofs.Points.{along-next, along-none, reach-kept}
 use Rattle.cubic.specs.Cubics.{curved, cubic, cubicPoints, startHalf, endHalf}
 use Rattle.cubic.specs.Depth.{Four}
 use Rattle.cubic.proofs.Depth.{reach-flat}
 use Rattle.cubic.proofs.Run.{Stacked, none, more, points, steps, flat-points, flat-steps, split-stacked, split-few, split-points, split-steps, reach-points}
-use Rattle.cubic.proofs.Points.{reach-kept}
 use Rattle.cubic.proofs.Stack.{cubicAt, cubics, stack, stack-top, cubics-length, put6, put6-length, segment, pushed, pushed-every}
 
 -- the array holds a stack whose top is at a
@@ -38,15 +38,6 @@ pub record Going (f : Frame) (cap : ℕ) (ws₀ : List ℕ) (start : Pen) (curve
   pub made : List Mark
   pub drew : Drew f cap ws₀ ws start pen made
   pub rest : made ++ along f from (points (stack arc a)) ≡ curve
-
--- one line more
-along-next : (f : Frame) (from p : FixedPoint) (ps : List FixedPoint) → along f from (p ∷ ps) ≡ lineMarks f from p ++ along f p ps
-unfolding along
-along-next f from p ps = refl
-
-along-none : (f : Frame) (from : FixedPoint) → along f from [] ≡ []
-unfolding along
-along-none f from = refl
 
 module _ (arc : List FixedPoint) (a : ℕ) (h : Standing arc a) where
   top : stack arc a ≡ cubicAt arc a ∷ cubics arc (a / 3)

@@ -1,24 +1,22 @@
 -- Where a cubic's points lie: each is a mean of means of its four points, so what means keep holds of each, and the last is its end.
-use Prim.Native.Nat.{ℕ, zero, suc, _≤_, _<_}
-use mathlib.Core.Path.{_≡_, refl, subst}
-use mathlib.Core.Bool.{Bool, true, false, not, _&&_}
+use Prim.Native.Nat.{ℕ, zero, suc, _≤_}
+use mathlib.Core.Path.{_≡_, refl}
+use mathlib.Core.Bool.{Bool, true, false, _&&_, false≢true}
 use mathlib.Core.List.{List, [], _∷_}
 use native.Mathlib.Omega.{arith}
 use lib.ListN.{length}
-use lib.Dec.{T, leb}
+use lib.Dec.{leb}
 use borrow.Author.Tests.{leb-true, le-leb, ltb-true, lt-ltb}
 use Rattle.fixed.specs.declared.FixedPoint.{FixedPoint}
 use Rattle.fixed.specs.Fixed.{cell}
 use Rattle.fixed.specs.Split.{Between, Within}
-use Rattle.fixed.proofs.Range.{Kept, x-kept, y-kept, within-kept}
+use Rattle.fixed.proofs.Range.{Kept, x-kept, y-kept, within-kept, past-kept, ahead-kept}
 use Rattle.pen.specs.declared.Frame.{Frame}
 use Rattle.line.specs.Range.{Reach}
 use Rattle.line.specs.Lines.{past, ahead}
+use Rattle.line.proofs.Points.{reach-kept}
 use Rattle.cubic.specs.Cubics.{Cubic, curved, startHalf, endHalf, cubic, cubicFrom, cubicPoints, allPast, allAhead}
 use Rattle.cubic.specs.Depth.{Four, Each, none, more, Ends, last, later, endOf}
-
-never : {X : Type 0} → false ≡ true → X
-never z = absurd (subst (λ (b : Bool). T (not b)) z tt)
 
 -- ---- what means keep
 data Fours (P : FixedPoint → Type 0) : List Cubic → Type 0 where
@@ -75,33 +73,19 @@ module _ (lo hi : ℕ) (a c d b : FixedPoint) where
   pub within-box : Four (Within lo hi) (cubic a c d b) → Each (Within lo hi) (cubicPoints a c d b)
   within-box h = points-keep (within-kept lo hi) a c d b h
 
-pub reach-kept : Kept Reach
-reach-kept =
-    record {
-      two = λ p q. record { x-low = omega arith; x-high = omega arith; y-low = omega arith; y-high = omega arith };
-      three = λ p q r. record { x-low = omega arith; x-high = omega arith; y-low = omega arith; y-high = omega arith };
-      four = λ p q r s. record { x-low = omega arith; x-high = omega arith; y-low = omega arith; y-high = omega arith };
-    }
-
 pub in-reach : (a c d b : FixedPoint) → Four Reach (cubic a c d b) → Each Reach (cubicPoints a c d b)
 in-reach a c d b h = points-keep reach-kept a c d b h
 
 -- ---- each point is past a band edge where the four are
-low-kept : (n : ℕ) → Kept (λ p. n ≤ cell (p .y))
-low-kept n = record { two = λ p q. omega arith; three = λ p q r. omega arith; four = λ p q r s. omega arith }
-
-high-kept : (n : ℕ) → Kept (λ p. cell (p .y) < n)
-high-kept n = record { two = λ p q. omega arith; three = λ p q r. omega arith; four = λ p q r s. omega arith }
-
 four-of : (t : FixedPoint → Bool) (a c d b : FixedPoint) → (t a && t c && t d && t b) ≡ true → Four (λ p. t p ≡ true) (cubic a c d b)
 four-of t a c d b e = go (t a) (t c) (t d) (t b) refl refl refl refl e
   where
     go : (x y z w : Bool) → t a ≡ x → t c ≡ y → t d ≡ z → t b ≡ w → (x && y && z && w) ≡ true → Four (λ p. t p ≡ true) (cubic a c d b)
     go true true true true p q r s h = record { end = s; near-end = r; near-start = q; start = p }
-    go true true true false p q r s h = never h
-    go true true false w p q r s h = never h
-    go true false z w p q r s h = never h
-    go false y z w p q r s h = never h
+    go true true true false p q r s h = absurd (false≢true h)
+    go true true false w p q r s h = absurd (false≢true h)
+    go true false z w p q r s h = absurd (false≢true h)
+    go false y z w p q r s h = absurd (false≢true h)
 
 module _ {P Q : FixedPoint → Type 0} (m : (p : FixedPoint) → P p → Q p) where
   four-map : {k : Cubic} → Four P k → Four Q k
@@ -115,12 +99,12 @@ module _ (f : Frame) (a c d b : FixedPoint) where
   pub each-past : allPast f a c d b ≡ true → Each (λ p. past f (p .y) ≡ true) (cubicPoints a c d b)
   each-past e =
       each-map (λ p h. le-leb (f .end) (cell (p .y)) h)
-      (points-keep (low-kept (f .end)) a c d b (four-map (λ p h. leb-true (f .end) (cell (p .y)) h) (four-of (λ p. past f (p .y)) a c d b e)))
+      (points-keep (past-kept (f .end)) a c d b (four-map (λ p h. leb-true (f .end) (cell (p .y)) h) (four-of (λ p. past f (p .y)) a c d b e)))
 
   pub each-ahead : allAhead f a c d b ≡ true → Each (λ p. ahead f (p .y) ≡ true) (cubicPoints a c d b)
   each-ahead e =
       each-map (λ p h. lt-ltb (cell (p .y)) (f .first) h)
-      (points-keep (high-kept (f .first)) a c d b (four-map (λ p h. ltb-true (cell (p .y)) (f .first) h) (four-of (λ p. ahead f (p .y)) a c d b e)))
+      (points-keep (ahead-kept (f .first)) a c d b (four-map (λ p h. ltb-true (cell (p .y)) (f .first) h) (four-of (λ p. ahead f (p .y)) a c d b e)))
 
 -- ---- the last point
 -- the end of the lowest cubic

@@ -9,9 +9,9 @@ use native.Mathlib.Nat.{add-zero, le-of-suc-le-suc}
 use lib.ListN.{length, set, length-set}
 use lib.Dec.{leb}
 use borrow.Author.Tests.{leb-true, leb-false}
-use lib.Seq.{getD-set-same, getD-set-other}
 use Rattle.fixed.specs.declared.FixedPoint.{FixedPoint}
-use Rattle.fixed.specs.Split.{zeroPoint, pointOf, splitCubic, Every}
+use Rattle.fixed.specs.Split.{pointOf, splitCubic, Every}
+use Rattle.fixed.proofs.Stored.{puts, puts-low, puts-at}
 use Rattle.cubic.specs.Cubics.{Cubic, startHalf, endHalf}
 
 abbrev pub cubicAt : List FixedPoint → ℕ → Cubic
@@ -42,23 +42,6 @@ cubics-same l m zero h = refl
 cubics-same l m (suc k) h =
     let r = cubics-same l m k (λ i p. h i (omega arith)) in
     rw (h (3 * k) (omega arith), h (3 * k + 1) (omega arith), h (3 * k + 2) (omega arith), h (3 * k + 3) (omega arith), r)
-
--- ---- points stored one by one, from place i on
-abbrev puts : List FixedPoint → ℕ → List FixedPoint → List FixedPoint
-puts l i [] = l
-puts l i (v ∷ vs) = puts (set l i v) (i + 1) vs
-
-puts-low : (l : List FixedPoint) (i : ℕ) (vs : List FixedPoint) (j : ℕ) → j < i → pointOf (puts l i vs) j ≡ pointOf l j
-puts-low l i [] j h = refl
-puts-low l i (v ∷ vs) j h = puts-low (set l i v) (i + 1) vs j (omega arith) ∙ getD-set-other l i j v zeroPoint (λ (e : j ≡ i). omega arith)
-
-puts-at : (l : List FixedPoint) (i : ℕ) (vs : List FixedPoint) (j : ℕ) → i + length vs ≤ length l → j < length vs → pointOf (puts l i vs) (i + j) ≡ pointOf vs j
-puts-at l i [] j h g = absurd (omega (arith, g))
-puts-at l i (v ∷ vs) zero h g =
-    rw add-zero (puts-low (set l i v) (i + 1) vs i (omega arith) ∙ getD-set-same l i v zeroPoint (omega (arith, h)))
-puts-at l i (v ∷ vs) (suc j) h g =
-    let e : i + suc j ≡ i + 1 + j = omega arith in
-    rw e (puts-at (set l i v) (i + 1) vs j (simp length-set (omega (arith, h))) (le-of-suc-le-suc g))
 
 -- ---- a split at a, in the form that the code's stores have: six points are new, and the one at a stays
 abbrev six : List FixedPoint → List FixedPoint

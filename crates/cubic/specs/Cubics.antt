@@ -1,10 +1,11 @@
 -- Document 01, "Lines, curves, cells": the points to which a cubic's lines go, and the marks that they make.
-use Prim.Native.Nat.{ℕ, zero, suc, _+_, _*_, _-_}
+use Prim.Native.Nat.{ℕ, zero, suc, _+_, _*_}
 use mathlib.Core.Bool.{Bool, true, false, cond, _&&_, _||_}
 use mathlib.Core.List.{List, [], _∷_}
 use lib.ListN.{length}
 use lib.Dec.{leb, ltb}
 use Rattle.fixed.specs.declared.FixedPoint.{FixedPoint}
+use Rattle.fixed.specs.Fixed.{apart}
 use Rattle.fixed.specs.Split.{pointOf, mid, mid4, mid8}
 use Rattle.pen.specs.declared.Frame.{Frame}
 use Rattle.pen.specs.Marks.{Mark}
@@ -20,10 +21,6 @@ pub record Cubic : Type 0 where
 -- from four points by value
 abbrev pub cubicOf : List FixedPoint → Cubic
 cubicOf l = record { p0 = pointOf l 0; p1 = pointOf l 1; p2 = pointOf l 2; p3 = pointOf l 3 }
-
--- |a − b|
-abbrev pub apart : ℕ → ℕ → ℕ
-apart a b = (a - b) + (b - a)
 
 abbrev pub far : ℕ → ℕ → Bool
 far a b = ltb 128 (apart a b)

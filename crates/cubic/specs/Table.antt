@@ -1,28 +1,16 @@
 -- Worked values of the rules, by computation.
 use mathlib.Core.Path.{_≡_, refl}
 use mathlib.Core.List.{[], _∷_}
-use Prim.Native.Nat.{ℕ, _+_, _-_}
-use Rattle.fixed.specs.declared.FixedPoint.{FixedPoint}
-use Rattle.fixed.specs.Fixed.{bias}
+use Rattle.fixed.specs.Points.{above, below, at}
 use Rattle.pen.specs.declared.Frame.{Frame}
 use Rattle.cubic.specs.Cubics.{cubicPoints, cubicMarks}
-
--- n and −n, as they are held
-above : ℕ → ℕ
-above n = bias + n
-
-below : ℕ → ℕ
-below n = bias - n
-
-at : ℕ → ℕ → FixedPoint
-at x y = record { x = x; y = y }
 
 -- nearly straight: one line
 one-line :
     cubicPoints (at (above 0) (above 0)) (at (above 30) (above 10)) (at (above 70) (above 20)) (at (above 100) (above 30))
     ≡ at (above 100) (above 30)
     ∷ []
-unfolding at above below cubicPoints
+unfolding cubicPoints
 one-line = refl
 
 -- 2p0 − 3p1 + p3 is 128 on the x axis: one line still
@@ -30,7 +18,7 @@ at-128 :
     cubicPoints (at (above 0) (above 0)) (at (above 21) (above 0)) (at (above 0) (above 0)) (at (above 64) (above 0))
     ≡ at (above 64) (above 0)
     ∷ []
-unfolding at above below cubicPoints
+unfolding cubicPoints
 at-128 = refl
 
 -- 129: two lines
@@ -39,7 +27,7 @@ at-129 :
     ≡ at (above 16) (above 0)
     ∷ at (above 66) (above 0)
     ∷ []
-unfolding at above below cubicPoints
+unfolding cubicPoints
 at-129 = refl
 
 -- −129: two lines, and −135/8 is rounded down
@@ -48,7 +36,7 @@ at-minus-129 :
     ≡ at (below 17) (above 0)
     ∷ at (below 66) (above 0)
     ∷ []
-unfolding at above below cubicPoints
+unfolding cubicPoints
 at-minus-129 = refl
 
 -- a quarter turn: two lines
@@ -57,7 +45,7 @@ two-lines :
     ≡ at (above 80) (above 176)
     ∷ at (above 256) (above 256)
     ∷ []
-unfolding at above below cubicPoints
+unfolding cubicPoints
 two-lines = refl
 
 -- a loop: ten lines, not all by the same number of splits
@@ -74,7 +62,7 @@ ten-lines :
     ∷ at (above 686) (below 62)
     ∷ at (above 1024) (below 512)
     ∷ []
-unfolding at above below cubicPoints
+unfolding cubicPoints
 ten-lines = refl
 
 -- rows 0 to 8: with every point at row 8 or below, or every point above row 0, nothing is drawn
@@ -82,9 +70,9 @@ eight : Frame
 eight = record { wide = 8200; first = 8192; end = 8200 }
 
 past-the-end : cubicMarks eight (at (above 0) (above 2048)) (at (above 0) (above 4000)) (at (above 900) (above 2048)) (at (above 900) (above 3000)) ≡ []
-unfolding eight at above cubicMarks
+unfolding eight cubicMarks
 past-the-end = refl
 
 before-the-first : cubicMarks eight (at (above 0) (below 1)) (at (above 0) (below 400)) (at (above 900) (below 1)) (at (above 900) (below 300)) ≡ []
-unfolding eight at above below cubicMarks
+unfolding eight cubicMarks
 before-the-first = refl

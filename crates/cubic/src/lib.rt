@@ -5,10 +5,11 @@ use pen::Frame;
 use pen::Pen;
 ghost use mathlib.Core.Path.{_≡_};
 ghost use Rattle.storage.specs.Answers.{Within};
+ghost use Rattle.fixed.specs.Fixed.{apart};
 ghost use Rattle.pen.specs.Drawing.{Ready, Drew};
 ghost use Rattle.line.specs.Range.{Reach};
 ghost use Rattle.line.specs.Lines.{past, ahead, along};
-ghost use Rattle.cubic.specs.Cubics.{apart, far, bent, curved, cubicOf, cubicPoints, allPast, allAhead, cubicMarks};
+ghost use Rattle.cubic.specs.Cubics.{far, bent, curved, cubicOf, cubicPoints, allPast, allAhead, cubicMarks};
 
 // A cubic is one line unless a number of its flatness test exceeds this.
 const HALF_PIXEL: u64 = 128;

@@ -14,7 +14,7 @@ use Rattle.fixed.specs.declared.Fix.{Fix}
 use Rattle.fixed.specs.declared.Fix.the-variants.{Fixed, Refused}
 use Rattle.fixed.specs.declared.Spot.{Spot}
 use Rattle.fixed.specs.declared.Spot.the-variants.{At, Outside}
-use Rattle.fixed.specs.Fixed.{limit, bias, heldOf, pickFix, withinLimit, toFixed, oneIf, spotFrom, spotOf}
+use Rattle.fixed.specs.Fixed.{limit, bias, heldOf, pickFix, withinLimit, toFixed, oneIf, spotFrom, spotOf, cell}
 use Rattle.fixed.specs.Split.{pointOf, mid, mid4, mid8, splitQuad, splitCubic, Between, Within, Every}
 
 -- ---- a mean of numbers
@@ -102,6 +102,13 @@ x-kept lo hi = record { two = half-between; three = quarter-between; four = eigh
 
 pub y-kept : (lo hi : ℕ) → Kept (λ p. Between lo hi (p .y))
 y-kept lo hi = record { two = half-between; three = quarter-between; four = eighth-between }
+
+-- from a row on, and before a row
+pub past-kept : (end : ℕ) → Kept (λ p. end ≤ cell (p .y))
+past-kept end = record { two = λ p q. omega arith; three = λ p q r. omega arith; four = λ p q r s. omega arith }
+
+pub ahead-kept : (first : ℕ) → Kept (λ p. cell (p .y) < first)
+ahead-kept first = record { two = λ p q. omega arith; three = λ p q r. omega arith; four = λ p q r s. omega arith }
 
 pub quad-within : {lo hi : ℕ} {l : List FixedPoint} → Every (Within lo hi) 3 l → Every (Within lo hi) 5 (splitQuad l)
 quad-within h = quad-keeps (within-kept _ _) h

@@ -3,78 +3,24 @@
 -- Assumes nothing.
 use mathlib.Core.Path.{_≡_, refl, sym, ap, _∙_}
 use mathlib.Core.Bool.{Bool, true, false, not, cond}
-use mathlib.Core.Logic.{_⊎_, inl, inr, ⊎-elim}
+use mathlib.Core.Logic.{⊎-elim}
 use Prim.Native.Nat.{ℕ, zero, suc, _+_, _-_, _*_, _/_, _%_, _≤_, _<_}
-use native.Mathlib.Nat.{mul-sub, mul-le-mul-left, zero-div, div-lt-iff-lt-mul, le-div-iff-mul-le, div-eq-of-lt-le, div-mul-le-self, lt-div-mul-add, add-mul, suc-mul}
+use native.Mathlib.Nat.{zero-div, div-lt-iff-lt-mul, le-div-iff-mul-le, div-eq-of-lt-le, div-mul-le-self, lt-div-mul-add, add-mul, suc-mul}
 use native.Mathlib.Omega.{arith}
-use lib.Dec.{T, leb, ltb, eqb, ltb→lt, nltb→le, lit≤}
-use lib.IntN.{ℤ, pos, negsuc, subℕ, _+ℤ_, _*ℤ_, negℤ, +ℤ-assoc, +ℤ-comm, negℤ-+ℤ, negℤ-negℤ, pos-+ℤ-pos, *ℤ-negsuc}
+use lib.Dec.{leb, eqb, lit≤}
+use lib.IntN.{ℤ, pos, negsuc, subℕ, _+ℤ_, _*ℤ_, negℤ}
 use lib.Signed.{quotZ, shrZ}
 use lib.Ieee.{fin, up, down}
-use borrow.Author.Tests.{lt-ltb, le-ltb, leb-true}
+use borrow.Author.Tests.{leb-true}
+use Rattle.float.specs.Differences.{_⊖_}
+use Rattle.float.proofs.Differences.{which, ⊖-up, ⊖-down, ⊖-zero, ⊖-add, ⊖-mul}
 use Rattle.fixed.specs.declared.Fix.the-variants.{Fixed, Refused}
 use Rattle.fixed.specs.Fixed.{limit, bias, valueOf, heldOf, pickFix, withinLimit, toFixed, cell, fraction}
 
--- ---- a − b as an integer, met by these laws alone
-infixl 6 _⊖_
-unfoldable _⊖_ : ℕ → ℕ → ℤ
-a ⊖ b = subℕ a b
-
+-- ---- a held number's integer
 value-is : (n : ℕ) → valueOf n ≡ n ⊖ bias
 unfolding valueOf _⊖_
 value-is n = refl
-
-which : (a b : ℕ) → (a < b) ⊎ (b ≤ a)
-which a b = go (ltb a b) (ltb→lt a b) (nltb→le a b)
-  where
-    go : (t : Bool) → (T t → a < b) → (T (not t) → b ≤ a) → (a < b) ⊎ (b ≤ a)
-    go true f g = inl (f tt)
-    go false f g = inr (g tt)
-
-⊖-up : (a b : ℕ) → b ≤ a → a ⊖ b ≡ pos (a - b)
-unfolding _⊖_
-⊖-up a b h = rw (le-ltb a b h)
-
-⊖-down : (a b : ℕ) → a < b → a ⊖ b ≡ negsuc (b - suc a)
-unfolding _⊖_
-⊖-down a b h = rw (lt-ltb a b h)
-
-⊖-is : (a b : ℕ) → a ⊖ b ≡ pos a +ℤ negℤ (pos b)
-unfolding _⊖_
-⊖-is a zero = ⊖-up a zero (omega arith) ∙ ap pos (omega arith)
-⊖-is a (suc b) = refl
-
-⊖-add : (a b c d : ℕ) → a ⊖ b +ℤ (c ⊖ d) ≡ (a + c) ⊖ (b + d)
-⊖-add a b c d =
-    rw (
-      ⊖-is a b,
-      ⊖-is c d,
-      ⊖-is (a + c) (b + d),
-      ← pos-+ℤ-pos a c,
-      ← pos-+ℤ-pos b d,
-      negℤ-+ℤ (pos b) (pos d),
-      +ℤ-assoc (pos a) (negℤ (pos b)) (pos c +ℤ negℤ (pos d)),
-      +ℤ-assoc (pos a) (pos c) (negℤ (pos b) +ℤ negℤ (pos d)),
-      ← +ℤ-assoc (negℤ (pos b)) (pos c) (negℤ (pos d)),
-      ← +ℤ-assoc (pos c) (negℤ (pos b)) (negℤ (pos d)),
-      +ℤ-comm (negℤ (pos b)) (pos c),
-    )
-
-⊖-neg : (a b : ℕ) → negℤ (a ⊖ b) ≡ b ⊖ a
-⊖-neg a b = rw (⊖-is a b, ⊖-is b a, negℤ-+ℤ (pos a) (negℤ (pos b)), negℤ-negℤ (pos b), +ℤ-comm (negℤ (pos a)) (pos b))
-
-⊖-mul : (k a b : ℕ) → pos k *ℤ (a ⊖ b) ≡ (k * a) ⊖ (k * b)
-⊖-mul k a b = ⊎-elim
-    (λ h. rw (
-      ⊖-down a b h,
-      *ℤ-negsuc (pos k) (b - suc a),
-      ← ⊖-neg (k * b) (k * a),
-      ⊖-up (k * b) (k * a) (mul-le-mul-left k (omega arith)),
-      ← mul-sub k b a,
-    )
-    (ap (λ n. negℤ (pos (k * n))) (omega arith)))
-    (λ h. rw (⊖-up a b h, ⊖-up (k * a) (k * b) (mul-le-mul-left k h), ← mul-sub k a b))
-    (which a b)
 
 -- the quotient of what lies k whole d's and less than one more above zero
 whole-of : (n k d : ℕ) → k * d ≤ n → n < k * d + d → n / d ≡ k
@@ -145,7 +91,7 @@ cell-value n = ap (λ (z : ℤ). shrZ z 256) (value-is n) ∙ ⊖-shr n 8192 256
 pub fraction-value : (n : ℕ) → valueOf n ≡ pos 256 *ℤ subℕ (cell n) 8192 +ℤ pos (fraction n)
 unfolding _⊖_
 fraction-value n =
-    let z : pos (fraction n) ≡ fraction n ⊖ 0 = sym (⊖-up (fraction n) 0 (omega arith) ∙ ap pos (omega arith)) in
+    let z : pos (fraction n) ≡ fraction n ⊖ 0 = sym (⊖-zero (fraction n)) in
     let e : n ≡ 256 * cell n + fraction n = omega arith in
     value-is n
     ∙ ap (λ (k : ℕ). k ⊖ bias) e

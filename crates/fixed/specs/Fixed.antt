@@ -61,3 +61,7 @@ cell n = n / 256
 
 abbrev pub fraction : ℕ → ℕ
 fraction n = n % 256
+
+-- |a − b|
+abbrev pub apart : ℕ → ℕ → ℕ
+apart a b = (a - b) + (b - a)

@@ -1,4 +1,5 @@
 pub mod Fixed
+pub mod Points
 pub mod Scaled
 pub mod Split
 pub mod Table

@@ -2,23 +2,16 @@
 use mathlib.Core.Path.{_≡_, refl}
 use mathlib.Core.List.{[], _∷_, map}
 use mathlib.Core.Bool.{true, false}
-use Prim.Native.Nat.{ℕ, _+_, _-_}
+use Prim.Native.Nat.{ℕ}
 use lib.IntN.{pos, negsuc}
 use lib.Ieee.{binary32, ofBits}
-use Rattle.fixed.specs.declared.FixedPoint.{FixedPoint}
 use Rattle.fixed.specs.declared.Fix.{Fix}
 use Rattle.fixed.specs.declared.Fix.the-variants.{Fixed, Refused}
 use Rattle.fixed.specs.declared.Spot.{Spot}
 use Rattle.fixed.specs.declared.Spot.the-variants.{At, Outside}
-use Rattle.fixed.specs.Fixed.{bias, valueOf, toFixed, spotOf, cell, fraction}
+use Rattle.fixed.specs.Fixed.{valueOf, toFixed, spotOf, cell, fraction}
+use Rattle.fixed.specs.Points.{above, below, at}
 use Rattle.fixed.specs.Split.{splitQuad, splitCubic}
-
--- n and −n, as they are held
-above : ℕ → ℕ
-above n = bias + n
-
-below : ℕ → ℕ
-below n = bias - n
 
 -- ---- the point rule
 fixedBits : ℕ → Fix
@@ -28,21 +21,21 @@ fixedBits b = toFixed (ofBits binary32 b)
 limits :
     map fixedBits (0x4500_0000 ∷ 0x4500_0010 ∷ 0x4500_000f ∷ 0xc500_0000 ∷ 0xc500_0010 ∷ [])
     ≡ Fixed (above 524288) false ∷ Refused ∷ Fixed (above 524288) true ∷ Fixed (below 524288) false ∷ Refused ∷ []
-unfolding fixedBits above below ofBits toFixed
+unfolding fixedBits ofBits toFixed
 limits = refl
 
 -- −0.003 becomes 0 and −0.00390625 becomes −1; 1.5 is 384, 0.1 is 25, −0.1 is −25
 toward-zero :
     map fixedBits (0xbb44_9ba6 ∷ 0xbb80_0000 ∷ 0x3fc0_0000 ∷ 0x3dcc_cccd ∷ 0xbdcc_cccd ∷ [])
     ≡ Fixed (above 0) true ∷ Fixed (below 1) false ∷ Fixed (above 384) false ∷ Fixed (above 25) true ∷ Fixed (below 25) true ∷ []
-unfolding fixedBits above below ofBits toFixed
+unfolding fixedBits ofBits toFixed
 toward-zero = refl
 
 -- 0, −0, the smallest and its negative
 zeros :
     map fixedBits (0 ∷ 0x8000_0000 ∷ 1 ∷ 0x8000_0001 ∷ [])
     ≡ Fixed (above 0) false ∷ Fixed (above 0) false ∷ Fixed (above 0) true ∷ Fixed (above 0) true ∷ []
-unfolding fixedBits above ofBits toFixed
+unfolding fixedBits ofBits toFixed
 zeros = refl
 
 -- the largest, the infinities, and a NaN with either sign
@@ -64,49 +57,44 @@ spots :
     ∷ spotBits 0 0x7f80_0000
     ∷ spotBits 0x7fc0_0000 0
     ∷ []
-    ≡ At (record { x = above 384; y = below 1 }) 0
-    ∷ At (record { x = above 0; y = above 384 }) 1
-    ∷ At (record { x = above 25; y = below 25 }) 2
+    ≡ At (at (above 384) (below 1)) 0
+    ∷ At (at (above 0) (above 384)) 1
+    ∷ At (at (above 25) (below 25)) 2
     ∷ Outside
     ∷ Outside
     ∷ []
-unfolding spotBits above below ofBits spotOf
+unfolding spotBits ofBits spotOf
 spots = refl
 
 -- ---- cell and fraction: −1 is cell −1, fraction 255; −256, −257, 0, 255, 256
 cells : map cell (below 1 ∷ below 256 ∷ below 257 ∷ above 0 ∷ above 255 ∷ above 256 ∷ []) ≡ 8191 ∷ 8191 ∷ 8190 ∷ 8192 ∷ 8192 ∷ 8193 ∷ []
-unfolding above below
 cells = refl
 
 fractions : map fraction (below 1 ∷ below 256 ∷ below 257 ∷ above 0 ∷ above 255 ∷ above 256 ∷ []) ≡ 255 ∷ 0 ∷ 255 ∷ 0 ∷ 255 ∷ 0 ∷ []
-unfolding above below
 fractions = refl
 
 values : map valueOf (below 257 ∷ below 1 ∷ above 0 ∷ above 3 ∷ []) ≡ negsuc 256 ∷ negsuc 0 ∷ pos 0 ∷ pos 3 ∷ []
-unfolding above below valueOf
+unfolding valueOf
 values = refl
 
 -- ---- splits
-point : ℕ → ℕ → FixedPoint
-point a b = record { x = a; y = b }
-
 -- (−3, 5) (4, −7) (−8, 2): 1/2, −2/2; −3/4, −7/4; −4/2, −5/2
 quad :
-    splitQuad (point (below 3) (above 5) ∷ point (above 4) (below 7) ∷ point (below 8) (above 2) ∷ [])
-    ≡ point (below 3) (above 5) ∷ point (above 0) (below 1) ∷ point (below 1) (below 2) ∷ point (below 2) (below 3) ∷ point (below 8) (above 2) ∷ []
-unfolding above below point splitQuad
+    splitQuad (at (below 3) (above 5) ∷ at (above 4) (below 7) ∷ at (below 8) (above 2) ∷ [])
+    ≡ at (below 3) (above 5) ∷ at (above 0) (below 1) ∷ at (below 1) (below 2) ∷ at (below 2) (below 3) ∷ at (below 8) (above 2) ∷ []
+unfolding splitQuad
 quad = refl
 
 -- (−5, 1) (2, −4) (−1, 6) (7, −9): −3/2, −3/2; −2/4, −1/4; 5/8, −2/8; 7/4, −1/4; 6/2, −3/2
 cubic :
-    splitCubic (point (below 5) (above 1) ∷ point (above 2) (below 4) ∷ point (below 1) (above 6) ∷ point (above 7) (below 9) ∷ [])
-    ≡ point (below 5) (above 1)
-    ∷ point (below 2) (below 2)
-    ∷ point (below 1) (below 1)
-    ∷ point (above 0) (below 1)
-    ∷ point (above 1) (below 1)
-    ∷ point (above 3) (below 2)
-    ∷ point (above 7) (below 9)
+    splitCubic (at (below 5) (above 1) ∷ at (above 2) (below 4) ∷ at (below 1) (above 6) ∷ at (above 7) (below 9) ∷ [])
+    ≡ at (below 5) (above 1)
+    ∷ at (below 2) (below 2)
+    ∷ at (below 1) (below 1)
+    ∷ at (above 0) (below 1)
+    ∷ at (above 1) (below 1)
+    ∷ at (above 3) (below 2)
+    ∷ at (above 7) (below 9)
     ∷ []
-unfolding above below point splitCubic
+unfolding splitCubic
 cubic = refl

@@ -7,7 +7,8 @@ use mathlib.Core.Bool.{Bool, true, false, not, cond}
 use lib.Dec.{T, leb, ltb, eqb, lit<, lit≤}
 use lib.Arith.{lt-of-le-ne}
 use lib.Pow.{pow-add, pow-pos, pow-mono, pow-lt, shl-lt}
-use lib.Ieee.{Float, nan, inf, fin, binary32, up, down, ofFields, ofBits, toBits, fits}
+use lib.Ieee.{Float, nan, inf, fin, binary32, up, down, ofFields, ofBits, toBits, fits, isNan, ne}
+use lib.Ieee.Compare.{nan-differs}
 use lib.Ieee.Fits.{down-pos}
 use lib.Ieee.Bits.{ofBits-toBits}
 use lib.Ieee.Exact.{HasValue, odd-sign}
@@ -104,7 +105,13 @@ mid s b (suc x) t h k l =
     ∙ ap (λ (n : ℕ). Near b n (not (eqb (num % 2 ^ 149) 0))) q
     ∙ ap (λ (r : Bool). Near b ((t + 2 ^ 23) / 2 ^ (150 - suc x)) (not r)) (same-rest num (2 ^ 149) (t + 2 ^ 23) (2 ^ (150 - suc x)) (pow-pos 149) (pow-pos (150 - suc x)) c)
 
--- ---- a float is read from the fields of its bits
+-- ---- a float is read from the fields of its bits; it has bits where it equals itself, and so is no NaN
+pub no-nan : (w : Float) → ne w w ≡ false → T (not (isNan w))
+unfolding isNan
+no-nan nan h = subst T (sym nan-differs ∙ h) tt
+no-nan (inf s) h = tt
+no-nan (fin s m e) h = tt
+
 abbrev pub expOf : ℕ → ℕ
 expOf n = n % 2 ^ 31 / 2 ^ 23
 

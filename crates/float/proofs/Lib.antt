@@ -1,3 +1,4 @@
+pub mod Differences
 pub mod Fractions
 pub mod Fields
 pub mod Fitting

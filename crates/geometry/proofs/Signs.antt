@@ -1,11 +1,18 @@
 -- A whole number that is held with 2 ^ 24 added is read back as itself, its differences and its sums too: nothing falls below 0 on the way. Assumes nothing.
-use mathlib.Core.Path.{_≡_, refl, sym, ap, _∙_}
+use mathlib.Core.Path.{_≡_, refl, sym, ap, _∙_, subst}
 use Prim.Native.Nat.{ℕ, zero, suc, _+_, _-_, _^_, _≤_, _<_}
+use native.Mathlib.Nat.{lt-of-le-of-lt}
 use native.Mathlib.Omega.{arith}
 use mathlib.Core.Bool.{Bool, true, false, cond}
-use lib.Dec.{ltb}
-use lib.IntN.{ℤ, pos, negsuc, negℤ, subℕ, natAbs, _+ℤ_, _-ℤ_}
-use borrow.Author.Tests.{ltb-true, ltb-false, lt-ltb, le-ltb}
+use lib.Dec.{ltb, lit<}
+use lib.IntN.{ℤ, pos, negsuc, negℤ, subℕ, natAbs, _+ℤ_, _-ℤ_, +ℤ-idr}
+use lib.Signed.{mag}
+use mir.Syntax.{w32}
+use mir.Val.{SFits, toZ}
+use mir.Facts.{toZ-pos}
+use borrow.Author.Tests.{ltb-true}
+use Rattle.float.specs.Differences.{_⊖_}
+use Rattle.float.proofs.Differences.{⊖-zero, ⊖-same}
 use Rattle.geometry.specs.declared.Origin.{Origin}
 use Rattle.geometry.specs.declared.Origin.the-variants.{TopLeft, BottomLeft}
 use Rattle.geometry.specs.Placing.{notBelow, lift}
@@ -15,56 +22,15 @@ use Rattle.geometry.specs.Held.{held, own, raised}
 abbrev pub Low : ℤ → Type 0
 Low z = natAbs z ≤ 2 ^ 23
 
--- ---- a difference of two numbers
-sub-same : (a b c d : ℕ) → a + d ≡ c + b → subℕ a b ≡ subℕ c d
-sub-same a b c d h = go (ltb a b) refl
-  where
-    less : a < b → b - suc a ≡ d - suc c
-    less k = omega arith
-
-    more : b ≤ a → a - b ≡ c - d
-    more k = omega arith
-
-    go : (u : Bool) → ltb a b ≡ u → subℕ a b ≡ subℕ c d
-    go true p =
-        let k : a < b = ltb-true a b p in
-        let l : c < d = omega arith in
-        ap (λ (u : Bool). cond u (negsuc (b - suc a)) (pos (a - b))) p ∙ ap negsuc (less k) ∙ sym (ap (λ (u : Bool). cond u (negsuc (d - suc c)) (pos (c - d))) (lt-ltb c d l))
-    go false p =
-        let k : b ≤ a = ltb-false a b p in
-        let l : d ≤ c = omega arith in
-        ap (λ (u : Bool). cond u (negsuc (b - suc a)) (pos (a - b))) p ∙ ap pos (more k) ∙ sym (ap (λ (u : Bool). cond u (negsuc (d - suc c)) (pos (c - d))) (le-ltb c d l))
-
-from-zero : (n : ℕ) → subℕ 0 (suc n) ≡ negsuc n
-from-zero n =
-    let h : 0 < suc n = omega arith in
-    let e : suc n - suc 0 ≡ n = omega arith in
-    ap (λ (u : Bool). cond u (negsuc (suc n - suc 0)) (pos (0 - suc n))) (lt-ltb 0 (suc n) h) ∙ ap negsuc e
-
-less-zero : (n : ℕ) → subℕ n 0 ≡ pos n
-less-zero n =
-    let h : 0 ≤ n = omega arith in
-    let e : n - 0 ≡ n = omega arith in
-    ap (λ (u : Bool). cond u (negsuc (0 - suc n)) (pos (n - 0))) (le-ltb n 0 h) ∙ ap pos e
-
-kept : (a b : ℕ) → notBelow (subℕ a b) ≡ a - b
-kept a b = go (ltb a b) refl
-  where
-    none : a < b → 0 ≡ a - b
-    none h = omega arith
-
-    go : (u : Bool) → ltb a b ≡ u → notBelow (cond u (negsuc (b - suc a)) (pos (a - b))) ≡ a - b
-    go true p = none (ltb-true a b p)
-    go false p = refl
-
 -- ---- held and read back
 pub held-neg : (n : ℕ) → held (negℤ (pos n)) ≡ 2 ^ 24 - n
 held-neg zero = omega arith
 held-neg (suc n) = refl
 
 raised-is : (z : ℤ) (h : ℕ) → Low z → own (held z + h) ≡ z +ℤ pos h
-raised-is (pos n) h l = sub-same (2 ^ 24 + n + h) (2 ^ 24) (n + h) 0 (omega arith) ∙ less-zero (n + h)
-raised-is (negsuc n) h l = sub-same (2 ^ 24 - suc n + h) (2 ^ 24) h (suc n) (omega arith)
+unfolding _⊖_
+raised-is (pos n) h l = ⊖-same (2 ^ 24 + n + h) (2 ^ 24) (n + h) 0 (omega arith) ∙ ⊖-zero (n + h)
+raised-is (negsuc n) h l = ⊖-same (2 ^ 24 - suc n + h) (2 ^ 24) h (suc n) (omega arith)
 
 no-more : (z : ℤ) → own (held z) ≡ own (held z + 0)
 no-more z = ap own (plain (held z))
@@ -72,15 +38,8 @@ no-more z = ap own (plain (held z))
     plain : (n : ℕ) → n ≡ n + 0
     plain n = omega arith
 
-nothing : (z : ℤ) → z +ℤ pos 0 ≡ z
-nothing (pos n) = ap pos (plain n)
-  where
-    plain : (n : ℕ) → n + 0 ≡ n
-    plain n = omega arith
-nothing (negsuc n) = from-zero n
-
 pub own-held : (z : ℤ) → Low z → own (held z) ≡ z
-own-held z l = no-more z ∙ raised-is z 0 l ∙ nothing z
+own-held z l = no-more z ∙ raised-is z 0 l ∙ +ℤ-idr z
 
 pub own-raised : (o : Origin) (z : ℤ) (h : ℕ) → Low z → own (raised o (held z) h) ≡ z +ℤ lift o h
 own-raised TopLeft z h l = no-more z ∙ raised-is z 0 l
@@ -91,6 +50,16 @@ held-low (pos n) l = omega arith
 held-low (negsuc n) l = omega arith
 
 -- ---- the difference of two numbers that are held
+kept : (a b : ℕ) → notBelow (subℕ a b) ≡ a - b
+kept a b = go (ltb a b) refl
+  where
+    none : a < b → 0 ≡ a - b
+    none h = omega arith
+
+    go : (u : Bool) → ltb a b ≡ u → notBelow (cond u (negsuc (b - suc a)) (pos (a - b))) ≡ a - b
+    go true p = none (ltb-true a b p)
+    go false p = refl
+
 pub held-gap : (y z : ℤ) → Low y → Low z → held z - held y ≡ notBelow (z -ℤ y)
 held-gap (pos zero) (pos b) k l = plain b
   where
@@ -110,3 +79,17 @@ held-gap (negsuc a) (negsuc b) k l = plain ∙ sym (kept (suc a) (suc b))
   where
     plain : 2 ^ 24 - suc b - (2 ^ 24 - suc a) ≡ suc a - suc b
     plain = omega arith
+
+-- ---- as the code takes 2 ^ 24 off: nothing wraps
+small : (n : ℕ) → n ≤ 2 ^ 30 → SFits w32 (own n)
+small n h = record { sfits = go (ltb n 16777216) }
+  where
+    go : (u : Bool) → mag (cond u (negsuc (16777216 - suc n)) (pos (n - 16777216))) < 2 ^ 31
+    go true = omega arith
+    go false = omega arith
+
+pub taken-is : (n : ℕ) → n ≤ 2 ^ 30 → toZ w32 n -ℤ pos 16777216 ≡ own n
+taken-is n h = ap (λ (z : ℤ). z -ℤ pos 16777216) (toZ-pos w32 (lt-of-le-of-lt h (lit< tt)))
+
+pub taken-fits : (n : ℕ) → n ≤ 2 ^ 30 → SFits w32 (toZ w32 n -ℤ pos 16777216)
+taken-fits n h = subst (SFits w32) (sym (taken-is n h)) (small n h)

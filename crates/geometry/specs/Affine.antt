@@ -1,5 +1,6 @@
 -- Document 01, "From floats to 24.8 numbers": points and transforms, "with each product and sum rounded once, in that order".
 use lib.Ieee.{Float, binary32, ofBits, add, mul}
+use Rattle.float.specs.Cut.{zeroF}
 use Rattle.geometry.specs.declared.Point.{Point}
 use Rattle.geometry.specs.declared.Transform.{Transform}
 
@@ -9,9 +10,6 @@ times a b = mul binary32 a b
 
 abbrev pub plus : Float → Float → Float
 plus a b = add binary32 a b
-
-abbrev pub zeroF : Float
-zeroF = ofBits binary32 0
 
 abbrev pub oneF : Float
 oneF = ofBits binary32 0x3f80_0000

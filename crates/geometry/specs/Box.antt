@@ -2,9 +2,10 @@
 use mathlib.Core.Bool.{Bool, cond, _&&_, _||_}
 use mathlib.Core.List.{List, [], _∷_}
 use lib.Ieee.{Float, binary32, lt, le, sub}
+use Rattle.float.specs.Cut.{zeroF}
 use Rattle.geometry.specs.declared.Point.{Point}
 use Rattle.geometry.specs.declared.Bounds.{Bounds}
-use Rattle.geometry.specs.Affine.{zeroF, pointOf}
+use Rattle.geometry.specs.Affine.{pointOf}
 
 abbrev pub boundsOf : Point → Point → Bounds
 boundsOf a b = record { min = a; max = b }

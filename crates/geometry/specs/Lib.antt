@@ -1,4 +1,5 @@
 pub mod Affine
+pub mod Bits
 pub mod Box
 pub mod Placing
 pub mod Held

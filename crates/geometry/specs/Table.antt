@@ -3,7 +3,7 @@ use mathlib.Core.Path.{_≡_, refl}
 use mathlib.Core.List.{List, [], _∷_}
 use Prim.Native.Nat.{ℕ}
 use lib.IntN.{ℤ, pos, negsuc}
-use lib.Ieee.{Float, binary32, ofBits, toBits, add, mul, lt, neg}
+use lib.Ieee.{binary32, ofBits, toBits, add, mul, lt, neg}
 use Rattle.float.specs.Round.{floorZ, ceilZ, floorOf}
 use Rattle.geometry.specs.declared.Point.{Point}
 use Rattle.geometry.specs.declared.Transform.{Transform}
@@ -11,16 +11,10 @@ use Rattle.geometry.specs.declared.Bounds.{Bounds}
 use Rattle.geometry.specs.declared.Origin.the-variants.{TopLeft, BottomLeft}
 use Rattle.geometry.specs.declared.Placed.{Placed}
 use Rattle.geometry.specs.declared.Placed.the-variants.{At, Outside}
-use Rattle.geometry.specs.Affine.{pointOf, transformOf, identityOf, scaleOf, combineOf, translatedOf, moved}
+use Rattle.geometry.specs.Affine.{transformOf, identityOf, scaleOf, combineOf, translatedOf, moved}
+use Rattle.geometry.specs.Bits.{float, at}
 use Rattle.geometry.specs.Box.{boundsOf, boxFrom, boxOf}
 use Rattle.geometry.specs.Placing.{reaches, placedOf}
-
-float : ℕ → Float
-float b = ofBits binary32 b
-
-at : ℕ → ℕ → Point
-unfolding float
-at a b = pointOf (float a) (float b)
 
 bits : Point → List ℕ
 bits p = toBits binary32 (p .x) ∷ toBits binary32 (p .y) ∷ []
@@ -32,26 +26,25 @@ entries t = toBits binary32 (t .xx) ∷ toBits binary32 (t .xy) ∷ toBits binar
 
 -- identity then scale (-1, 1): xy is 0·-1 + 1·0, which is +0
 flipped : entries (combineOf identityOf (scaleOf (float 0xbf80_0000) (float 0x3f80_0000))) ≡ (0xbf80_0000 ∷ 0 ∷ 0 ∷ 0x3f80_0000 ∷ 0 ∷ 0 ∷ [])
-unfolding float entries ofBits toBits add mul
+unfolding entries ofBits toBits add mul
 flipped = refl
 
 -- then move (1.5, -2)
 chained : entries (translatedOf (combineOf identityOf (scaleOf (float 0x4000_0000) (float 0x4040_0000))) (float 0x3fc0_0000) (float 0xc000_0000)) ≡ (0x4000_0000 ∷ 0 ∷ 0 ∷ 0x4040_0000 ∷ 0x3fc0_0000 ∷ 0xc000_0000 ∷ [])
-unfolding float entries ofBits toBits add mul
+unfolding entries ofBits toBits add mul
 chained = refl
 
 -- a quarter turn, then scale (2, 1), sends (1, 0) to (0, 2)
 quarter : Transform
-unfolding float
 quarter = transformOf (float 0) (float 0x3f80_0000) (float 0xbf80_0000) (float 0) (float 0) (float 0)
 
 turned : bits (moved (combineOf quarter (scaleOf (float 0x4000_0000) (float 0x3f80_0000))) (at 0x3f80_0000 0)) ≡ (0 ∷ 0x4000_0000 ∷ [])
-unfolding float at bits quarter ofBits toBits add mul
+unfolding bits quarter ofBits toBits add mul
 turned = refl
 
 -- 0.1·0.1 + 0.2·0.2, then + 0.3, each rounded
 rounded : bits (moved (transformOf (float 0x3dcc_cccd) (float 0) (float 0x3e4c_cccd) (float 0) (float 0x3e99_999a) (float 0)) (at 0x3dcc_cccd 0x3e4c_cccd)) ≡ (0x3eb3_3334 ∷ 0 ∷ [])
-unfolding float at bits ofBits toBits add mul
+unfolding bits ofBits toBits add mul
 rounded = refl
 
 -- ---- boxes
@@ -62,12 +55,12 @@ corners b = bits (b .min) ∷ bits (b .max) ∷ []
 
 -- 0.0 then -0.0: the first is kept, and the other way round
 zero-first : corners (boxOf (at 0 0x8000_0000 ∷ at 0x8000_0000 0 ∷ [])) ≡ ((0 ∷ 0x8000_0000 ∷ []) ∷ (0 ∷ 0x8000_0000 ∷ []) ∷ [])
-unfolding float at bits corners ofBits toBits lt boxFrom boxOf
+unfolding bits corners ofBits toBits lt boxFrom boxOf
 zero-first = refl
 
 -- (1, 2), (-3, 5), (0, 0)
 three : corners (boxOf (at 0x3f80_0000 0x4000_0000 ∷ at 0xc040_0000 0x40a0_0000 ∷ at 0 0 ∷ [])) ≡ ((0xc040_0000 ∷ 0 ∷ []) ∷ (0x3f80_0000 ∷ 0x40a0_0000 ∷ []) ∷ [])
-unfolding float at bits corners ofBits toBits lt boxFrom boxOf
+unfolding bits corners ofBits toBits lt boxFrom boxOf
 three = refl
 
 nothing : corners (boxOf []) ≡ ((0 ∷ 0 ∷ []) ∷ (0 ∷ 0 ∷ []) ∷ [])
@@ -87,37 +80,37 @@ answer Outside = outside
 
 -- K11: box (0.5, 0.25) to (3.25, 2), offset (-1, 1), bottom-left: 4×2, left -1, top 3
 k11 : answer (placedOf BottomLeft (at 0xbf80_0000 0x3f80_0000) (boundsOf (at 0x3f00_0000 0x3e80_0000) (at 0x4050_0000 0x4000_0000))) ≡ at-answer 0x3f80_0000 0xbf80_0000 (negsuc 0) (pos 3) 4 2
-unfolding float at answer ofBits toBits add neg floorZ ceilZ floorOf reaches
+unfolding answer ofBits toBits add neg floorZ ceilZ floorOf reaches
 k11 = refl
 
 -- the box (0, 0) to (0, 0), offset (0.5, 0.5): 1×1, left 0, top 0 (1 from bottom-left), new offset -0
 half-top : answer (placedOf TopLeft (at 0x3f00_0000 0x3f00_0000) (boxOf [])) ≡ at-answer 0x8000_0000 0x8000_0000 (pos 0) (pos 0) 1 1
-unfolding float at answer ofBits toBits add neg floorZ ceilZ floorOf reaches boxOf
+unfolding answer ofBits toBits add neg floorZ ceilZ floorOf reaches boxOf
 half-top = refl
 
 half-bottom : answer (placedOf BottomLeft (at 0x3f00_0000 0x3f00_0000) (boxOf [])) ≡ at-answer 0x8000_0000 0x8000_0000 (pos 0) (pos 1) 1 1
-unfolding float at answer ofBits toBits add neg floorZ ceilZ floorOf reaches boxOf
+unfolding answer ofBits toBits add neg floorZ ceilZ floorOf reaches boxOf
 half-bottom = refl
 
 -- a maximum below the minimum, (3, 1.5) to (1, 0.5): no width, no height
 upside-down : answer (placedOf BottomLeft (at 0 0) (boundsOf (at 0x4040_0000 0x3fc0_0000) (at 0x3f80_0000 0x3f00_0000))) ≡ at-answer 0xc040_0000 0xbf80_0000 (pos 3) (pos 1) 0 0
-unfolding float at answer ofBits toBits add neg floorZ ceilZ floorOf reaches
+unfolding answer ofBits toBits add neg floorZ ceilZ floorOf reaches
 upside-down = refl
 
 -- the largest that reaches, 8388607.5 both ways
 largest : answer (placedOf BottomLeft (at 0 0) (boundsOf (at 0xcaff_ffff 0xcaff_ffff) (at 0x4aff_ffff 0x4aff_ffff))) ≡ at-answer 0x4b00_0000 0x4b00_0000 (negsuc 8388607) (pos 8388608) 16777216 16777216
-unfolding float at answer ofBits toBits add neg floorZ ceilZ floorOf reaches
+unfolding answer ofBits toBits add neg floorZ ceilZ floorOf reaches
 largest = refl
 
 -- 2 ^ 23, infinity and NaN do not
 too-far : answer (placedOf TopLeft (at 0 0) (boundsOf (at 0 0) (at 0 0x4b00_0000))) ≡ outside
-unfolding float at answer ofBits add reaches
+unfolding answer ofBits add reaches
 too-far = refl
 
 infinite : answer (placedOf TopLeft (at 0xff80_0000 0) (boundsOf (at 0 0) (at 0 0))) ≡ outside
-unfolding float at answer ofBits add reaches
+unfolding answer ofBits add reaches
 infinite = refl
 
 no-number : answer (placedOf TopLeft (at 0 0) (boundsOf (at 0 0x7fc0_0000) (at 0 0))) ≡ outside
-unfolding float at answer ofBits add reaches
+unfolding answer ofBits add reaches
 no-number = refl

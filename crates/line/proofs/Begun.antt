@@ -5,11 +5,11 @@ use mathlib.Core.Logic.{⊎-elim}
 use native.Mathlib.Omega.{arith}
 use native.Mathlib.Nat.{mul-add, mul-comm, mul-le-mul, mul-le-mul-left}
 use lib.IntN.{pos, _-ℤ_, _*ℤ_, *ℤ-comm}
-use Rattle.line.specs.Signs.{_⊖_}
+use Rattle.float.specs.Differences.{_⊖_}
+use Rattle.float.proofs.Differences.{which, ⊖-add, ⊖-neg, ⊖-mul, ⊖-same}
 use Rattle.line.specs.declared.Ends.{Ends}
 use Rattle.line.specs.Walk.{dx, dy, start, p}
 use Rattle.line.specs.Course.{B, Bounded, Slanted, NE, NW, SE, SW, Course, ne, nw, se, sw, Under}
-use Rattle.line.proofs.Signs.{which, ⊖-add, ⊖-neg, ⊖-mul, ⊖-same}
 use Rattle.line.proofs.Turning.{on-course}
 
 -- k·z, where z is w and a more

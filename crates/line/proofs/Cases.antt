@@ -1,7 +1,7 @@
 -- The cases of a line: which rule gives its marks.
-use Prim.Native.Nat.{ℕ, _<_, _≤_}
+use Prim.Native.Nat.{_<_, _≤_}
 use mathlib.Core.Path.{_≡_, refl}
-use mathlib.Core.Bool.{Bool, true, false, _&&_, _||_}
+use mathlib.Core.Bool.{Bool, true, false, _&&_, _||_, or-true, false≢true}
 use mathlib.Core.Logic.{_⊎_, inl, inr}
 use lib.Dec.{leb, ltb}
 use mathlib.Core.List.{[], _∷_}
@@ -16,7 +16,7 @@ use Rattle.line.specs.Walk.{start, last, upright, rowSide, p, crossed}
 use Rattle.line.specs.Lines.{ends, sides, within, marksOf, skips, marksIn, lineMarks}
 use Rattle.line.specs.Range.{Reach}
 use Rattle.line.specs.Course.{Bounded, rowsTo}
-use Rattle.line.proofs.Tests.{or-true, no-le, no-lts, no-eq, yes-le, yes-lts, yes-eq}
+use Rattle.line.proofs.Tests.{no-le, no-lts, no-eq, yes-le, yes-lts, yes-eq}
 
 module _ (l : Ends) where
   pub marks-within : cell (l .x1) ≡ cell (l .x2) → cell (l .y1) ≡ cell (l .y2) → marksOf l ≡ last l (start l)
@@ -44,9 +44,6 @@ pub sides-vertical : (l : Ends) → l .x1 ≡ l .x2 → rowsTo l (cell (l .y1)) 
 sides-vertical l e = rw e (omega arith)
 
 -- ---- the band
-never : false ≡ true → ⊥
-never e = let z : _≡_ {A = ℕ} 0 1 = cc in omega arith
-
 module _ (f : Frame) (l : Ends) where
   pub skips-past : f .end ≤ cell (l .y1) → f .end ≤ cell (l .y2) → skips f l ≡ true
   skips-past h g = rw (yes-le (f .end) (cell (l .y1)) (f .end) (cell (l .y2)) h g)
@@ -66,10 +63,10 @@ module _ (f : Frame) (l : Ends) where
       go true true m n p q r s e = inl (leb-true _ _ p, leb-true _ _ q)
       go true false true true p q r s e = inr (ltb-true _ _ r, ltb-true _ _ s)
       go false j true true p q r s e = inr (ltb-true _ _ r, ltb-true _ _ s)
-      go true false true false p q r s e = absurd (never e)
-      go true false false n p q r s e = absurd (never e)
-      go false j true false p q r s e = absurd (never e)
-      go false j false n p q r s e = absurd (never e)
+      go true false true false p q r s e = absurd (false≢true e)
+      go true false false n p q r s e = absurd (false≢true e)
+      go false j true false p q r s e = absurd (false≢true e)
+      go false j false n p q r s e = absurd (false≢true e)
 
   pub marks-skipped : skips f l ≡ true → marksIn f l ≡ []
   unfolding marksIn

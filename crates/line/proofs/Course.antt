@@ -5,14 +5,14 @@ use mathlib.Core.Path.{_≡_, sym, ap, _∙_}
 use mathlib.Core.Logic.{⊎-elim}
 use native.Mathlib.Omega.{arith}
 use native.Mathlib.Nat.{mul-add, mul-le-mul-left}
-use Rattle.line.specs.Signs.{_⊖_}
+use Rattle.fixed.specs.Fixed.{apart}
+use Rattle.float.specs.Differences.{_⊖_}
+use Rattle.float.proofs.Differences.{which}
 use Rattle.line.specs.declared.Ends.{Ends}
 use Rattle.line.specs.declared.Side.{Side}
 use Rattle.line.specs.declared.Side.the-variants.{Left, Next, Right, Previous}
 use Rattle.line.specs.Walk.{way}
-use Rattle.line.specs.Lines.{apart}
 use Rattle.line.specs.Course.{B, Bounded, Near, Fwd, Bwd, NE, NW, SE, SW, Course, ne, nw, se, sw, togo}
-use Rattle.line.proofs.Signs.{which}
 use Rattle.line.proofs.Ways.{to-left, to-next, to-right, to-previous}
 
 -- a move: its crossing is A − D over d, and it leads to cell (c', r') with P'

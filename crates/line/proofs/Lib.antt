@@ -1,5 +1,5 @@
-pub mod Signs
 pub mod Tests
+pub mod Points
 pub mod Pairs
 pub mod Cases
 pub mod Ways

@@ -5,9 +5,9 @@ use mathlib.Core.Logic.{⊎-elim}
 use native.Mathlib.Omega.{arith}
 use native.Mathlib.Nat.{mul-le-mul}
 use lib.IntN.{pos, _*ℤ_, *ℤ-comm}
-use Rattle.line.specs.Signs.{_⊖_}
+use Rattle.float.specs.Differences.{_⊖_}
+use Rattle.float.proofs.Differences.{which, ⊖-up, ⊖-down, ⊖-mul}
 use Rattle.line.specs.Walk.{word}
-use Rattle.line.proofs.Signs.{which, ⊖-up, ⊖-down, ⊖-mul}
 
 pub word-sub : (a b : ℕ) → a < 2 ^ 32 → b < 2 ^ 32 → (a + 4294967296 - b) % 4294967296 ≡ word (a ⊖ b)
 word-sub a b h k = ⊎-elim

@@ -4,8 +4,8 @@ use mathlib.Core.Path.{_≡_, refl, ap, _∙_}
 use mathlib.Core.Bool.{Bool, true, false}
 use native.Mathlib.Omega.{arith}
 use lib.Dec.{ltb}
-use Rattle.fixed.specs.Fixed.{cell}
-use Rattle.line.specs.Signs.{_⊖_}
+use Rattle.float.specs.Differences.{_⊖_}
+use Rattle.fixed.specs.Fixed.{cell, apart}
 use Rattle.line.specs.declared.Ends.{Ends}
 use Rattle.line.specs.declared.At.{At}
 use Rattle.line.specs.declared.Rates.{Rates}
@@ -13,7 +13,7 @@ use Rattle.line.specs.declared.Turn.{Turn}
 use Rattle.line.specs.declared.Side.{Side}
 use Rattle.line.specs.declared.Side.the-variants.{Left, Next, Right, Previous}
 use Rattle.line.specs.Walk.{start, last, upright, rowSide, p, way, cut, crossed}
-use Rattle.line.specs.Lines.{apart, sides}
+use Rattle.line.specs.Lines.{sides}
 use Rattle.line.specs.Course.{B, Bounded, Slanted, Course, ne, nw, se, sw, Level, beside, rowsTo, togo, Rated, Under, Stepped}
 use Rattle.line.specs.Trail.{Boxed}
 use Rattle.line.proofs.Course.{Moved, moved}

@@ -1,19 +1,16 @@
--- Two tests joined, by what they say of numbers.
+-- Two tests joined: what they say of numbers, and each of them where both hold.
 use Prim.Native.Nat.{ℕ, _<_, _≤_}
 use mathlib.Core.Path.{_≡_, refl}
-use mathlib.Core.Bool.{Bool, true, false, _&&_, _||_}
+use mathlib.Core.Bool.{Bool, true, false, _&&_, and-false, false≢true}
 use mathlib.Core.Logic.{⊎-elim}
 use lib.Dec.{leb, ltb, eqb}
 use borrow.Author.Tests.{lt-ltb, le-ltb, le-leb, lt-leb, eq-eqb, ne-eqb, eqb-true}
-use Rattle.line.proofs.Signs.{which}
+use Rattle.float.proofs.Differences.{which}
 
-pub and-false : (b : Bool) → (b && false) ≡ false
-and-false true = refl
-and-false false = refl
-
-pub or-true : (b : Bool) → (b || true) ≡ true
-or-true true = refl
-or-true false = refl
+pub both-true : (x y : Bool) → (x && y) ≡ true → (x ≡ true) × (y ≡ true)
+both-true true true e = (refl, refl)
+both-true true false e = absurd (false≢true e)
+both-true false y e = absurd (false≢true e)
 
 module _ (a b c d : ℕ) where
   pub no-lt : (a ≤ b → d ≤ c) → (leb a b && ltb c d) ≡ false

@@ -5,17 +5,17 @@ use mathlib.Core.List.{List}
 use native.Mathlib.Omega.{arith}
 use native.Mathlib.Nat.{mul-assoc, mul-le-mul-right, mul-div-le}
 use lib.IntN.{ℤ, pos, _+ℤ_, _-ℤ_, _*ℤ_}
+use Rattle.fixed.specs.Fixed.{apart}
+use Rattle.float.specs.Differences.{_⊖_}
+use Rattle.float.proofs.Differences.{⊖-add, ⊖-neg, ⊖-mul, ⊖-abs, ⊖-same}
 use Rattle.pen.specs.Marks.{Mark}
-use Rattle.line.specs.Signs.{_⊖_}
 use Rattle.line.specs.declared.Ends.{Ends}
 use Rattle.line.specs.declared.At.{At}
 use Rattle.line.specs.declared.Rates.{Rates}
 use Rattle.line.specs.declared.Side.{Side}
 use Rattle.line.specs.declared.Side.the-variants.{Left, Next, Right, Previous}
 use Rattle.line.specs.Walk.{over, way, crossing, dx, dy, q, t}
-use Rattle.line.specs.Lines.{apart}
 use Rattle.line.specs.Course.{B, Bounded, Near, Course, ne, nw, se, sw, Rated, Under, Stepped}
-use Rattle.line.proofs.Signs.{⊖-add, ⊖-neg, ⊖-mul, ⊖-abs, ⊖-same}
 use Rattle.line.proofs.Course.{Moved, near}
 
 -- a crossing of a side is below 256

@@ -1,7 +1,7 @@
 -- What a band sees of marks that enter none of its cells: nothing. So the rule that skips a line is an economy.
 use Prim.Native.Nat.{ℕ}
 use mathlib.Core.Path.{_≡_, refl, _∙_}
-use mathlib.Core.Bool.{Bool, true, false, not, _&&_}
+use mathlib.Core.Bool.{Bool, true, false, not, _&&_, and-false}
 use mathlib.Core.List.{List, []}
 use mathlib.Core.Logic.{inl, inr}
 use lib.Dec.{eqb, leb, ltb}
@@ -14,7 +14,6 @@ use Rattle.pen.specs.Laws.{seen-append}
 use Rattle.line.specs.Range.{Reach}
 use Rattle.line.specs.Lines.{ends, lineAll, skips}
 use Rattle.line.specs.Trail.{StandsIn, Enters, none, gives, enters, Outside}
-use Rattle.line.proofs.Tests.{and-false}
 use Rattle.line.proofs.Whole.{line-outside, line-skipped}
 
 module _ (f : Frame) where
@@ -27,15 +26,15 @@ module _ (f : Frame) where
   stands-outside (at c′ r′ v a) c r h o = rw (h .1) o
   stands-outside nowhere c r h o = absurd h
 
-  gave-outside : (s : Stand) (v a : ℕ) → StandsOutside s → StandsOutside (gave s v a)
+  pub gave-outside : (s : Stand) (v a : ℕ) → StandsOutside s → StandsOutside (gave s v a)
   gave-outside (at c r v′ a′) v a o = o
   gave-outside nowhere v a o = o
 
-  not-inside : (c r v a : ℕ) → Outside f c r → inside f (pairOf c r v a) ≡ false
+  pub not-inside : (c r v a : ℕ) → Outside f c r → inside f (pairOf c r v a) ≡ false
   not-inside c r v a (inl h) = rw (le-ltb r (f .end) h) (and-false (ltb c (f .wide) && leb (f .first) r))
   not-inside c r v a (inr h) = rw (lt-leb (f .first) r h, and-false (ltb c (f .wide)))
 
-  leaving-unseen : (s : Stand) → StandsOutside s → seen f (leaving s) ≡ []
+  pub leaving-unseen : (s : Stand) → StandsOutside s → seen f (leaving s) ≡ []
   unfolding seen
   leaving-unseen nowhere o = refl
   leaving-unseen (at c r v a) o = go (not (eqb v 0 && eqb a 0))

@@ -8,12 +8,12 @@ use native.Mathlib.Numerals.{add-one}
 use borrow.Author.Tests.{ltb-true, ltb-false}
 use lib.Dec.{ltb}
 use lib.IntN.{ℤ}
+use Rattle.float.specs.Differences.{_⊖_}
 use Rattle.fixed.specs.Fixed.{cell}
 use Rattle.pen.specs.declared.Frame.{Frame}
 use Rattle.pen.specs.declared.Pen.{Pen}
 use Rattle.pen.specs.Marks.{Mark, enter}
 use Rattle.pen.specs.Drawing.{Drew}
-use Rattle.line.specs.Signs.{_⊖_}
 use Rattle.line.specs.declared.Ends.{Ends}
 use Rattle.line.specs.declared.At.{At}
 use Rattle.line.specs.declared.Turn.{Turn}

@@ -4,12 +4,12 @@ use mathlib.Core.Path.{_≡_}
 use mathlib.Core.Bool.{cond, _&&_}
 use native.Mathlib.Omega.{arith}
 use lib.Dec.{leb, ltb}
-use Rattle.line.specs.Signs.{_⊖_}
+use Rattle.float.specs.Differences.{_⊖_}
+use Rattle.float.proofs.Differences.{⊖-add, ⊖-neg, ⊖-mul, ⊖-le, ⊖-ge, ⊖-gt}
 use Rattle.line.specs.declared.Ends.{Ends}
 use Rattle.line.specs.declared.Side.the-variants.{Left, Next, Right, Previous}
 use Rattle.line.specs.Walk.{way}
 use Rattle.line.specs.Course.{B}
-use Rattle.line.proofs.Signs.{⊖-add, ⊖-neg, ⊖-mul, ⊖-le, ⊖-ge, ⊖-gt}
 use Rattle.line.proofs.Tests.{no-lt, no-le, yes-lt, yes-le}
 
 module _ (l : Ends) (P : ℕ) where

@@ -4,15 +4,14 @@ use mathlib.Core.Path.{_≡_}
 use mathlib.Core.Bool.{Bool, true, false}
 use mathlib.Core.List.{List, _∷_}
 use lib.IntN.{ℤ}
-use Rattle.fixed.specs.Fixed.{cell}
+use Rattle.float.specs.Differences.{_⊖_}
+use Rattle.fixed.specs.Fixed.{cell, apart}
 use Rattle.pen.specs.Marks.{Mark, enter}
-use Rattle.line.specs.Signs.{_⊖_}
 use Rattle.line.specs.declared.Ends.{Ends}
 use Rattle.line.specs.declared.At.{At}
 use Rattle.line.specs.declared.Rates.{Rates}
 use Rattle.line.specs.declared.Turn.{Turn}
 use Rattle.line.specs.Walk.{pair, over, way, cut, gone}
-use Rattle.line.specs.Lines.{apart}
 
 -- p is held as p + 2^40
 abbrev pub B : ℕ

@@ -1,4 +1,3 @@
-pub mod Signs
 pub mod Range
 pub mod Walk
 pub mod Lines

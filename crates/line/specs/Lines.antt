@@ -1,10 +1,10 @@
 -- Document 01, "Lines, curves, cells": the marks of a whole line.
-use Prim.Native.Nat.{ℕ, _+_, _-_}
+use Prim.Native.Nat.{ℕ, _+_}
 use mathlib.Core.Bool.{Bool, cond, _&&_, _||_}
 use mathlib.Core.List.{List, [], _∷_, _++_}
 use lib.Dec.{leb, ltb, eqb}
 use Rattle.fixed.specs.declared.FixedPoint.{FixedPoint}
-use Rattle.fixed.specs.Fixed.{cell}
+use Rattle.fixed.specs.Fixed.{cell, apart}
 use Rattle.pen.specs.declared.Frame.{Frame}
 use Rattle.pen.specs.Marks.{Mark, enter}
 use Rattle.line.specs.declared.Ends.{Ends}
@@ -12,9 +12,6 @@ use Rattle.line.specs.Walk.{start, last, upright, rowSide, p, crossed}
 
 abbrev pub ends : FixedPoint → FixedPoint → Ends
 ends a b = record { x1 = a .x; y1 = a .y; x2 = b .x; y2 = b .y }
-
-abbrev pub apart : ℕ → ℕ → ℕ
-apart a b = (a - b) + (b - a)
 
 -- how many sides a line crosses: |Δcolumn| + |Δrow|
 abbrev pub sides : Ends → ℕ

@@ -1,13 +1,10 @@
 -- The rules on lines of each kind, by computation; the values are the Rust's. Numbers are 256ths, from the label's corner.
-use Prim.Native.Nat.{ℕ, _+_, _-_, _^_}
+use Prim.Native.Nat.{ℕ, _+_}
 use mathlib.Core.Path.{_≡_, refl}
 use mathlib.Core.List.{List, [], _∷_}
-use Rattle.fixed.specs.declared.FixedPoint.{FixedPoint}
+use Rattle.fixed.specs.Points.{above, below, at, point}
 use Rattle.pen.specs.Marks.{Mark, enter, give}
 use Rattle.line.specs.Lines.{lineMarks}
-
-abbrev point : ℕ → ℕ → FixedPoint
-point x y = record { x = 2 ^ 21 + x; y = 2 ^ 21 + y }
 
 abbrev into : ℕ → ℕ → Mark
 into c r = enter (8192 + c) (8192 + r)
@@ -50,7 +47,7 @@ unfolding lineMarks
 down = refl
 
 -- from column −2 into the label
-from-left : lineMarks (record { wide = 8196; first = 8192; end = 8195 }) (record { x = 2 ^ 21 - 300; y = 2 ^ 21 + 10 }) (point 20 200)
+from-left : lineMarks (record { wide = 8196; first = 8192; end = 8195 }) (at (below 300) (above 10)) (point 20 200)
     ≡ give 26 12168 ∷ enter 8191 8192 ∷ give 152 38912 ∷ into 0 0 ∷ give 12 240 ∷ []
 unfolding lineMarks
 from-left = refl

@@ -6,9 +6,9 @@ use mathlib.Core.List.{List, [], _∷_}
 use lib.Dec.{ltb}
 use lib.IntN.{ℤ, pos, negsuc, _+ℤ_, _-ℤ_, _*ℤ_, natAbs}
 use lib.Signed.{leZ, ltZ}
+use Rattle.float.specs.Differences.{_⊖_}
 use Rattle.fixed.specs.Fixed.{cell, fraction}
 use Rattle.pen.specs.Marks.{Mark, enter, give}
-use Rattle.line.specs.Signs.{_⊖_}
 use Rattle.line.specs.declared.Ends.{Ends}
 use Rattle.line.specs.declared.At.{At}
 use Rattle.line.specs.declared.Side.{Side}

@@ -7,14 +7,14 @@ ghost use mathlib.Core.Path.{_≡_};
 ghost use mathlib.Core.Bool.{cond};
 ghost use mathlib.Core.List.{[], _∷_};
 ghost use Prim.Native.Nat.{_+_, _-_, _*_, _/_, _<_, _≤_, _^_};
+ghost use Rattle.float.specs.Differences.{_⊖_};
 ghost use Rattle.storage.specs.Answers.{Within};
-ghost use Rattle.fixed.specs.Fixed.{cell};
+ghost use Rattle.fixed.specs.Fixed.{cell, apart};
 ghost use Rattle.pen.specs.Marks.{enter, gave};
 ghost use Rattle.pen.specs.Drawing.{Ready, Drew, standOf};
-ghost use Rattle.line.specs.Signs.{_⊖_};
 ghost use Rattle.line.specs.Range.{Reach};
 ghost use Rattle.line.specs.Walk.{word, cover, area, pair, start, p, way, upright, rowSide, crossed};
-ghost use Rattle.line.specs.Lines.{ends, apart, sides, skips, marksIn, lineMarks};
+ghost use Rattle.line.specs.Lines.{ends, sides, skips, marksIn, lineMarks};
 ghost use Rattle.line.specs.Course.{B, Bounded, Near, Slanted, Rated, Under, Stepped, InCell, Aside, togo, rowsTo, beside};
 
 // The two end points of a line.

@@ -2,15 +2,15 @@
 use Prim.Native.Nat.{ℕ}
 use mathlib.Core.Path.{_≡_, refl}
 use mathlib.Core.List.{List, [], _∷_, _++_, map}
-use lib.Ieee.{ofBits, binary32}
-use Rattle.geometry.specs.declared.Point.{Point}
+use Rattle.geometry.specs.Bits.{at}
 use Rattle.command.specs.declared.Command.the-variants.{MoveTo, LineTo, QuadTo, CurveTo, Close}
 use Rattle.list.specs.declared.Reason.the-variants.{Cut, Kind, Length}
 use Rattle.list.specs.declared.Step.{Step}
 use Rattle.list.specs.declared.Step.the-variants as step
 use Rattle.list.specs.Records.{stepAt, numberOf}
+use Rattle.list.specs.Written.{close}
 
--- ---- coordinates: 1, 2, 3, −4, 0.5 and −0 as their four bytes, and a point by the bits of its two floats
+-- ---- coordinates: 1, 2, 3, −4, 0.5 and −0 as their four bytes
 abbrev b1 : List ℕ
 b1 = 0x00 ∷ 0x00 ∷ 0x80 ∷ 0x3F ∷ []
 
@@ -29,9 +29,6 @@ b0·5 = 0x00 ∷ 0x00 ∷ 0x00 ∷ 0x3F ∷ []
 abbrev b-0 : List ℕ
 b-0 = 0x00 ∷ 0x00 ∷ 0x00 ∷ 0x80 ∷ []
 
-abbrev point : ℕ → ℕ → Point
-point x y = record { x = ofBits binary32 x; y = ofBits binary32 y }
-
 -- what stands at a list's start
 abbrev first : List ℕ → Step
 first s = stepAt s 0
@@ -40,30 +37,27 @@ first s = stepAt s 0
 abbrev move : List ℕ
 move = 0x0A ∷ 0x00 ∷ 0x01 ∷ 0x00 ∷ 0x00 ∷ 0x00 ∷ 0x80 ∷ 0x3F ∷ 0x00 ∷ 0x00 ∷ 0x80 ∷ 0x3F ∷ []
 
-abbrev close : List ℕ
-close = 0x02 ∷ 0x00 ∷ 0x05 ∷ 0x00 ∷ []
-
 -- MoveTo (1,1)
-pub move-to : first move ≡ step.Command (MoveTo (point 0x3f80_0000 0x3f80_0000)) 12
+pub move-to : first move ≡ step.Command (MoveTo (at 0x3f80_0000 0x3f80_0000)) 12
 unfolding stepAt
 move-to = refl
 
 -- LineTo (2,−0)
-pub line-to : first (0x0A ∷ 0x00 ∷ 0x02 ∷ 0x00 ∷ b2 ++ b-0) ≡ step.Command (LineTo (point 0x4000_0000 0x8000_0000)) 12
+pub line-to : first (0x0A ∷ 0x00 ∷ 0x02 ∷ 0x00 ∷ b2 ++ b-0) ≡ step.Command (LineTo (at 0x4000_0000 0x8000_0000)) 12
 unfolding stepAt
 line-to = refl
 
 -- QuadTo (1,2) (3,−4)
 pub quad-to :
     first (0x12 ∷ 0x00 ∷ 0x03 ∷ 0x00 ∷ b1 ++ b2 ++ b3 ++ b-4)
-    ≡ step.Command (QuadTo (point 0x3f80_0000 0x4000_0000) (point 0x4040_0000 0xc080_0000)) 20
+    ≡ step.Command (QuadTo (at 0x3f80_0000 0x4000_0000) (at 0x4040_0000 0xc080_0000)) 20
 unfolding stepAt
 quad-to = refl
 
 -- CurveTo (1,2) (3,−4) (0.5,1)
 pub curve-to :
     first (0x1A ∷ 0x00 ∷ 0x04 ∷ 0x00 ∷ b1 ++ b2 ++ b3 ++ b-4 ++ b0·5 ++ b1)
-    ≡ step.Command (CurveTo (point 0x3f80_0000 0x4000_0000) (point 0x4040_0000 0xc080_0000) (point 0x3f00_0000 0x3f80_0000)) 28
+    ≡ step.Command (CurveTo (at 0x3f80_0000 0x4000_0000) (at 0x4040_0000 0xc080_0000) (at 0x3f00_0000 0x3f80_0000)) 28
 unfolding stepAt
 curve-to = refl
 

@@ -7,9 +7,10 @@ use native.Mathlib.Omega.{arith}
 use lib.ListN.{length, getD, drop, length-drop}
 use lib.Seq.{drop-cons}
 use lib.Ieee.{Float}
+use Rattle.float.specs.Cut.{zeroF}
 use Rattle.geometry.specs.declared.Point.{Point}
 use Rattle.geometry.specs.declared.Bounds.{Bounds}
-use Rattle.geometry.specs.Affine.{pointOf, zeroF}
+use Rattle.geometry.specs.Affine.{pointOf}
 use Rattle.geometry.specs.Box.{boxAt, around, boxFrom, boxOf}
 use Rattle.mosszephyr.specs.Tests.{pairsOf}
 

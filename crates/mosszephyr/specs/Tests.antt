@@ -4,6 +4,7 @@ use mathlib.Core.Bool.{Bool, true, false}
 use mathlib.Core.List.{List, [], _∷_}
 use lib.IntN.{pos}
 use lib.Ieee.{Float}
+use Rattle.float.specs.Cut.{zeroF}
 use Rattle.geometry.specs.declared.Point.{Point}
 use Rattle.geometry.specs.declared.Transform.{Transform}
 use Rattle.geometry.specs.declared.Bounds.{Bounds}
@@ -11,7 +12,7 @@ use Rattle.geometry.specs.declared.Origin.{Origin}
 use Rattle.geometry.specs.declared.Origin.the-variants.{TopLeft, BottomLeft}
 use Rattle.geometry.specs.declared.Placed.{Placed}
 use Rattle.geometry.specs.declared.Placed.the-variants.{At, Outside}
-use Rattle.geometry.specs.Affine.{zeroF, pointOf, transformOf}
+use Rattle.geometry.specs.Affine.{pointOf, transformOf}
 use Rattle.geometry.specs.Box.{boundsOf}
 use Rattle.mosszephyr.specs.declared.MzTransform.{MzTransform}
 use Rattle.mosszephyr.specs.declared.MzPoint.{MzPoint}

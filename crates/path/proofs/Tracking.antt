@@ -1,6 +1,6 @@
 -- The loop that draws a list keeps the marks that are done and those that are left.
-use Prim.Native.Nat.{ℕ, _+_, _-_, _≤_, _<_}
-use mathlib.Core.Path.{_≡_, refl, sym, ap, _∙_}
+use Prim.Native.Nat.{ℕ}
+use mathlib.Core.Path.{_≡_, refl, ap, _∙_}
 use mathlib.Core.List.{List, [], _∷_, _++_, append-assoc, append-nil, map}
 use native.Mathlib.Omega.{arith}
 use lib.Dec.{lit≤}
@@ -14,10 +14,9 @@ use Rattle.command.specs.declared.Command.{Command}
 use Rattle.list.specs.declared.Reason.{Reason}
 use Rattle.list.specs.declared.Step.the-variants as step
 use Rattle.list.specs.Records.{stepAt}
-use Rattle.list.proofs.Next.{next-in}
 use Rattle.pen.specs.declared.Frame.{Frame}
-use Rattle.pen.specs.Marks.{Mark, nowhere, Stand, after, Pair, left, lastOf}
-use Rattle.pen.specs.Laws.{after-append, left-append}
+use Rattle.pen.specs.Marks.{Mark, nowhere, whole}
+use Rattle.pen.specs.Laws.{whole-append}
 use Rattle.pen.specs.Drawing.{Ready, Added, Drew, lifted, standOf}
 use Rattle.pen.proofs.Adding.{drew-none, drew-then, added-then, still-ready}
 use Rattle.raster.specs.declared.Stroke.{Stroke}
@@ -26,27 +25,16 @@ use Rattle.raster.specs.Path.{corner, begun, strokeMarks, pointAfter, startAfte
 use Rattle.raster.specs.Tracing.{ReachAll, Sound, Stroked}
 use Rattle.raster.proofs.Told.{still-sound, marks-end, marks-stroke}
 use Rattle.line.specs.Lines.{lineMarks}
-use Rattle.path.specs.Reading.{Read, path, readFrom, readList}
+use Rattle.path.specs.Reading.{Read, path, readList}
 use Rattle.path.specs.Strokes.{strokeOf, strokesOf, Traced}
 use Rattle.path.proofs.Points.{corner-near}
-use Rattle.path.proofs.Walk.{at-the-end, never-refused, onward, Onward}
-
--- a stand's marks and its last cell
-abbrev whole : Stand → List Mark → List Pair
-whole st ms = left st ms ++ lastOf (after st ms)
-
-whole-append : (st : Stand) (xs ys : List Mark) → left st xs ++ whole (after st xs) ys ≡ whole st (xs ++ ys)
-whole-append st xs ys = rw (left-append st xs ys, after-append st xs ys) (sym (append-assoc (left st xs) (left (after st xs) ys) (lastOf (after (after st xs) ys))))
+use Rattle.path.proofs.Walk.{Unread, all-unread, Onward, at-the-end, never-refused, onward}
 
 module _ (f : Frame) (cap : ℕ) (ws₀ : List ℕ) (t : Transform) (o : Point) (s : List ℕ) where
   -- `done` is drawn of the commands cs; from `at` on the commands `rest` are read
   pub record Going (cs : List Command) (ws : List ℕ) (track : Track) (at : ℕ) : Type 0 where
     pub rest : List Command
-    pub fuel : ℕ
-    pub index : ℕ
-    pub enough : length s < fuel + at
-    pub inside : at ≤ length s
-    pub reads : readFrom fuel t o s at index ≡ path rest
+    pub unread : Unread t o s at rest
     pub done : List Mark
     pub drew : Drew f cap ws₀ ws lifted (track .pen) done
     pub all : done ++ marksFrom f (track .at) (track .start) (strokesOf t o rest) ≡ marks f (strokesOf t o cs)
@@ -57,14 +45,10 @@ module _ (f : Frame) (cap : ℕ) (ws₀ : List ℕ) (t : Transform) (o : Point) 
     pub going : (cs : List Command) → readList t o s ≡ path cs → Going cs ws track at
 
   begun-going : (cs : List Command) → readList t o s ≡ path cs → Going cs ws₀ begun 0
-  unfolding readList marks lifted
+  unfolding marks lifted
   begun-going cs e = record {
     rest = cs;
-    fuel = length s + 1;
-    index = 0;
-    enough = omega arith;
-    inside = omega arith;
-    reads = e;
+    unread = all-unread t o s cs e;
     done = [];
     drew = drew-none f cap (omega arith);
     all = refl;
@@ -83,16 +67,11 @@ module _ (f : Frame) (cap : ℕ) (ws₀ : List ℕ) (t : Transform) (o : Point) 
       more : (cs : List Command) → Going cs ws track at → Going cs ws′ track′ next
       unfolding strokesOf
       more cs h =
-          let b = next-in s at k next e in
-          let w : Onward t o s (h .fuel) (h .index) k next (h .rest) = onward t o s (h .fuel) at (h .index) (h .rest) k next (omega arith) (h .reads) e in
+          let w : Onward t o s k next (h .rest) = onward t o s at (h .rest) (h .unread) k next e in
           let m = strokeMarks f (track .at) (track .start) (strokeOf t o k) in
           record {
             rest = w .behind;
-            fuel = h .fuel - 1;
-            index = h .index + 1;
-            enough = omega (arith, b .past, b .inside);
-            inside = b .inside;
-            reads = w .reads;
+            unread = w .unread;
             done = h .done ++ m;
             drew = drew-then f cap (h .drew) (d .drew);
             all = rw (append-assoc (h .done) m _, d .goes, d .starts)
@@ -112,9 +91,9 @@ module _ (f : Frame) (cap : ℕ) (ws₀ : List ℕ) (t : Transform) (o : Point) 
           → Added f cap ws₀ ws′ (Cells 0) r (whole nowhere (marks f (strokesOf t o cs)))
       unfolding strokesOf lifted
       ended cs e h =
-          let none : h .rest ≡ [] = at-the-end t o s (h .fuel) at (h .index) (h .rest) (omega arith) (h .reads) e in
+          let none : h .rest ≡ [] = at-the-end t o s at (h .rest) (h .unread) e in
           let all : h .done ++ lineMarks f (track .at) (track .start) ≡ marks f (strokesOf t o cs) = rw (marks-end f (track .at) (track .start)) at (rw none at (h .all)) in
-          rw (← all, ← whole-append nowhere (h .done) (lineMarks f (track .at) (track .start)))
+          rw (← all, whole-append nowhere (h .done) (lineMarks f (track .at) (track .start)))
           (added-then f cap (h .drew .added) (rw (h .drew .stands) at a))
 
       pub traced : stepAt s at ≡ step.End → Traced f cap ws₀ ws′ t o s r
@@ -124,5 +103,5 @@ module _ (f : Frame) (cap : ℕ) (ws₀ : List ℕ) (t : Transform) (o : Point) 
       untraced why e = record {
         within = w;
         same = a .same ∙ g .same;
-        adds = λ cs l. let h = g .going cs l in absurd (never-refused t o s (h .fuel) at (h .index) (h .rest) why (omega arith) (h .reads) e);
+        adds = λ cs l. let h = g .going cs l in absurd (never-refused t o s at (h .rest) (h .unread) why e);
       }

@@ -21,7 +21,14 @@ use Rattle.path.specs.declared.Verdict.the-variants.{Fine, Faulty}
 use Rattle.path.specs.Refusals.{refusalOf}
 use Rattle.path.specs.Reading.{Read, refused, path, before, judged, verdictOf, readStep, readFrom, readList, judgedOf}
 
--- so many records, and those that are still read
+-- ---- a list that was read: its commands are its own, and it was not refused
+pub same-commands : {xs ys : List Command} → path xs ≡ path ys → xs ≡ ys
+same-commands p = cc
+
+pub refused-not-path : {w : Refusal} {i : ℕ} {cs : List Command} → refused w i ≡ path cs → ⊥
+refused-not-path p = let z : _≡_ {A = ℕ} 0 1 = cc in omega arith
+
+-- ---- so many records, and those that are still read
 abbrev tallied : ℕ → Read → Judged
 tallied n (path cs) = Records (n + length cs)
 tallied n (refused w i) = Refused w i
@@ -103,34 +110,57 @@ module _ (t : Transform) (o : Point) (s : List ℕ) where
 
   -- ---- an accepted list: what is left of it are commands
 
-  pub at-the-end : (f at i : ℕ) (cs : List Command) → 0 < f → readFrom f t o s at i ≡ path cs → stepAt s at ≡ step.End → cs ≡ []
-  unfolding readStep
-  at-the-end f at i cs h r e = commands (rw e at (sym (one f at i h) ∙ r))
-    where
-      commands : {xs ys : List Command} → path xs ≡ path ys → ys ≡ xs
-      commands p = cc
+  -- from `at` on the commands `rest` are read
+  pub record Unread (at : ℕ) (rest : List Command) : Type 0 where
+    pub fuel : ℕ
+    pub index : ℕ
+    pub enough : length s < fuel + at
+    pub inside : at ≤ length s
+    pub reads : readFrom fuel t o s at index ≡ path rest
 
-  pub never-refused : (f at i : ℕ) (cs : List Command) (w : Reason) → 0 < f → readFrom f t o s at i ≡ path cs → stepAt s at ≡ step.Refused w → ⊥
-  unfolding readStep
-  never-refused f at i cs w h r e = clash (rw e at (sym (one f at i h) ∙ r))
-    where
-      clash : {w : Refusal} {i : ℕ} {cs : List Command} → refused w i ≡ path cs → ⊥
-      clash p = let z : _≡_ {A = ℕ} 0 1 = cc in omega arith
+  -- at first all of them
+  pub all-unread : (cs : List Command) → readList t o s ≡ path cs → Unread 0 cs
+  unfolding readList
+  all-unread cs e = record { fuel = length s + 1; index = 0; enough = omega arith; inside = omega arith; reads = e }
 
   -- a command, and the commands behind it
-  pub record Onward (f i : ℕ) (c : Command) (next : ℕ) (cs : List Command) : Type 0 where
+  pub record Onward (c : Command) (next : ℕ) (cs : List Command) : Type 0 where
     pub behind : List Command
     pub splits : cs ≡ (c ∷ behind)
-    pub reads : readFrom (f - 1) t o s next (i + 1) ≡ path behind
+    pub unread : Unread next behind
 
-  split : (f i : ℕ) (c : Command) (next : ℕ) (cs : List Command) (r : Read) → readFrom (f - 1) t o s next (i + 1) ≡ r → before c r ≡ path cs → Onward f i c next cs
-  split f i c next cs (path bs) e p = record { behind = bs; splits = cc; reads = e }
-  split f i c next cs (refused w k) e p = absurd (let z : _≡_ {A = ℕ} 0 1 = cc in omega arith)
+  module _ (at : ℕ) (cs : List Command) (u : Unread at cs) where
+    later : ℕ → Read
+    later next = readFrom (u .fuel - 1) t o s next (u .index + 1)
 
-  judge-split : (f i : ℕ) (c : Command) (next : ℕ) (cs : List Command) (v : Verdict) → judged v i c (readFrom (f - 1) t o s next (i + 1)) ≡ path cs → Onward f i c next cs
-  judge-split f i c next cs Fine p = split f i c next cs (readFrom (f - 1) t o s next (i + 1)) refl p
-  judge-split f i c next cs (Faulty w) p = absurd (let z : _≡_ {A = ℕ} 0 1 = cc in omega arith)
+    here : readStep t o (u .index) (stepAt s at) later ≡ path cs
+    unfolding later
+    here = sym (one (u .fuel) at (u .index) (omega (arith, u .enough, u .inside))) ∙ u .reads
 
-  pub onward : (f at i : ℕ) (cs : List Command) (c : Command) (next : ℕ) → 0 < f → readFrom f t o s at i ≡ path cs → stepAt s at ≡ step.Command c next → Onward f i c next cs
-  unfolding readStep
-  onward f at i cs c next h r e = judge-split f i c next cs (verdictOf t o i c) (rw e at (sym (one f at i h) ∙ r))
+    pub at-the-end : stepAt s at ≡ step.End → cs ≡ []
+    unfolding readStep
+    at-the-end e = sym (same-commands (rw e at here))
+
+    pub never-refused : (w : Reason) → stepAt s at ≡ step.Refused w → ⊥
+    unfolding readStep
+    never-refused w e = refused-not-path (rw e at here)
+
+    module _ (c : Command) (next : ℕ) (e : stepAt s at ≡ step.Command c next) where
+      split : (r : Read) → later next ≡ r → before c r ≡ path cs → Onward c next cs
+      unfolding later
+      split (path bs) h p =
+          let b = next-in s at c next e in
+          record {
+            behind = bs;
+            splits = cc;
+            unread = record { fuel = u .fuel - 1; index = u .index + 1; enough = omega (arith, u .enough, b .past, b .inside); inside = b .inside; reads = h };
+          }
+      split (refused w k) h p = absurd (refused-not-path p)
+
+      judge-split : (v : Verdict) → judged v (u .index) c (later next) ≡ path cs → Onward c next cs
+      judge-split Fine p = split (later next) refl p
+      judge-split (Faulty w) p = absurd (refused-not-path p)
+
+      pub onward : Onward c next cs
+      unfolding readStep
+      onward = judge-split (verdictOf t o (u .index) c) (rw e at here)

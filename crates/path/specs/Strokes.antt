@@ -1,7 +1,7 @@
 -- The strokes of a path: its commands in fixed numbers.
 use Prim.Native.Nat.{ℕ}
 use mathlib.Core.Path.{_≡_}
-use mathlib.Core.List.{List, map, _++_}
+use mathlib.Core.List.{List, map}
 use lib.ListN.{length}
 use Rattle.geometry.specs.declared.Point.{Point}
 use Rattle.geometry.specs.declared.Transform.{Transform}
@@ -16,7 +16,7 @@ use Rattle.storage.specs.declared.Kept.{Kept}
 use Rattle.storage.specs.declared.Kept.the-variants.{Cells}
 use Rattle.storage.specs.Answers.{Within}
 use Rattle.pen.specs.declared.Frame.{Frame}
-use Rattle.pen.specs.Marks.{nowhere, after, left, lastOf}
+use Rattle.pen.specs.Marks.{nowhere, whole}
 use Rattle.pen.specs.Drawing.{Added}
 use Rattle.raster.specs.Path.{corner, marks}
 use Rattle.path.specs.Reading.{spotAt, Read, path, readList}
@@ -47,4 +47,4 @@ pub record Traced (f : Frame) (cap : ℕ) (ws ws′ : List ℕ) (t : Transform) 
   pub within : Within cap r
   pub same : length ws′ ≡ length ws
   pub adds : (cs : List Command) → readList t o s ≡ path cs
-      → Added f cap ws ws′ (Cells 0) r (left nowhere (marks f (strokesOf t o cs)) ++ lastOf (after nowhere (marks f (strokesOf t o cs))))
+      → Added f cap ws ws′ (Cells 0) r (whole nowhere (marks f (strokesOf t o cs)))

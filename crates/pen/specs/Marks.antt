@@ -70,7 +70,11 @@ unfoldable pub seen : Frame → List Pair → List Deposit
 seen f [] = []
 seen f (d ∷ ds) = when (inside f d) (placed f d) (seen f ds)
 
+-- what a pen that stands so and makes these marks leaves, its last cell too
+abbrev pub whole : Stand → List Mark → List Pair
+whole s ms = left s ms ++ lastOf (after s ms)
+
 -- what a drawing of these marks stores, in order
 unfoldable pub deposits : Frame → List Mark → List Deposit
 unfolding after left seen
-deposits f ms = seen f (left nowhere ms ++ lastOf (after nowhere ms))
+deposits f ms = seen f (whole nowhere ms)

@@ -17,9 +17,9 @@ use Rattle.list.specs.declared.Step.the-variants as step
 use Rattle.list.specs.Records.{stepAt}
 use Rattle.path.specs.declared.Verdict.{Verdict}
 use Rattle.path.specs.declared.Verdict.the-variants.{Fine, Faulty}
-use Rattle.path.specs.declared.Refusal.{Refusal}
 use Rattle.path.specs.declared.Refusal.the-variants.{First, Outside}
 use Rattle.path.specs.Reading.{Read, refused, path, judged, allPass, verdictOf, readStep, readFrom, readList}
+use Rattle.path.proofs.Walk.{same-commands, refused-not-path}
 use Rattle.placing.specs.Placing.{pathPoints}
 
 -- a path that has a first point: that of a MoveTo
@@ -33,30 +33,24 @@ pub data FineFrom (t : Transform) (o : Point) : ℕ → List Command → Type 0 
   none : {i : ℕ} → FineFrom t o i []
   more : {i : ℕ} {c : Command} {cs : List Command} → verdictOf t o i c ≡ Fine → FineFrom t o (i + 1) cs → FineFrom t o i (c ∷ cs)
 
-commands : {xs ys : List Command} → path xs ≡ path ys → xs ≡ ys
-commands p = cc
-
-never : {w : Refusal} {i : ℕ} {cs : List Command} → refused w i ≡ path cs → ⊥
-never p = let z : _≡_ {A = ℕ} 0 1 = cc in omega arith
-
 module _ (t : Transform) (o : Point) where
   -- a record, where what is read behind it is fine
   fine-judged : (i : ℕ) (c : Command) (v : Verdict) → verdictOf t o i c ≡ v → (r : Read) → ((cs : List Command) → r ≡ path cs → FineFrom t o (i + 1) cs)
       → (cs : List Command) → judged v i c r ≡ path cs → FineFrom t o i cs
-  fine-judged i c Fine v (path bs) h cs e = subst (FineFrom t o i) (commands e) (more v (h bs refl))
-  fine-judged i c Fine v (refused w k) h cs e = absurd (never e)
-  fine-judged i c (Faulty w) v r h cs e = absurd (never e)
+  fine-judged i c Fine v (path bs) h cs e = subst (FineFrom t o i) (same-commands e) (more v (h bs refl))
+  fine-judged i c Fine v (refused w k) h cs e = absurd (refused-not-path e)
+  fine-judged i c (Faulty w) v r h cs e = absurd (refused-not-path e)
 
   fine-step : (i : ℕ) (x : Step) (rest : ℕ → Read) → ((next : ℕ) (cs : List Command) → rest next ≡ path cs → FineFrom t o (i + 1) cs)
       → (cs : List Command) → readStep t o i x rest ≡ path cs → FineFrom t o i cs
   unfolding readStep
-  fine-step i step.End rest h cs e = subst (FineFrom t o i) (commands e) none
-  fine-step i (step.Refused w) rest h cs e = absurd (never e)
+  fine-step i step.End rest h cs e = subst (FineFrom t o i) (same-commands e) none
+  fine-step i (step.Refused w) rest h cs e = absurd (refused-not-path e)
   fine-step i (step.Command c next) rest h cs e = fine-judged i c (verdictOf t o i c) refl (rest next) (h next) cs e
 
   fine-from : (s : List ℕ) (f at i : ℕ) (cs : List Command) → readFrom f t o s at i ≡ path cs → FineFrom t o i cs
   unfolding readFrom
-  fine-from s zero at i cs e = subst (FineFrom t o i) (commands e) none
+  fine-from s zero at i cs e = subst (FineFrom t o i) (same-commands e) none
   fine-from s (suc f) at i cs e = fine-step i (stepAt s at) (λ next. readFrom f t o s next (i + 1)) (λ next bs. fine-from s f next (i + 1) bs) cs e
 
   pub all-fine : (s : List ℕ) (cs : List Command) → readList t o s ≡ path cs → FineFrom t o 0 cs

@@ -1,11 +1,9 @@
 -- The loop over an accepted list keeps the box of the points that were passed and those that are left. It starts with the box of the first point,
 -- which an accepted list has; to add that point once more changes nothing.
-use Prim.Native.Nat.{ℕ, _+_, _-_, _≤_, _<_}
+use Prim.Native.Nat.{ℕ}
 use mathlib.Core.Path.{_≡_, refl, ap}
 use mathlib.Core.Bool.{Bool, true, false, cond}
 use mathlib.Core.List.{List, [], _∷_, _++_}
-use native.Mathlib.Omega.{arith}
-use lib.ListN.{length}
 use lib.Ieee.{Float, lt}
 use Rattle.geometry.specs.declared.Point.{Point}
 use Rattle.geometry.specs.declared.Transform.{Transform}
@@ -17,9 +15,8 @@ use Rattle.list.specs.declared.Reason.{Reason}
 use Rattle.list.specs.declared.Step.{Step}
 use Rattle.list.specs.declared.Step.the-variants as step
 use Rattle.list.specs.Records.{stepAt}
-use Rattle.list.proofs.Next.{next-in}
-use Rattle.path.specs.Reading.{path, readFrom, readList}
-use Rattle.path.proofs.Walk.{at-the-end, never-refused, onward, Onward}
+use Rattle.path.specs.Reading.{path, readList}
+use Rattle.path.proofs.Walk.{Unread, all-unread, Onward, at-the-end, never-refused, onward}
 use Rattle.placing.specs.Placing.{nowhere, movedPoints, pathPoints, pathBox}
 use Rattle.placing.specs.Measuring.{firstIn, startOf, Boxes}
 use Rattle.placing.proofs.Accepted.{Begins, begins}
@@ -54,35 +51,25 @@ module _ (t : Transform) where
 
   module _ (s : List ℕ) where
     start : (o : Point) (cs : List Command) (x : Step) → stepAt s 0 ≡ x → readList t o s ≡ path cs → boxFrom (startOf t x) (pathPoints t cs) ≡ pathBox t cs
-    unfolding readList
-    start o cs step.End e r = rw (at-the-end t o s (length s + 1) 0 0 cs (omega arith) r e) starts-empty
-    start o cs (step.Refused w) e r = absurd (never-refused t o s (length s + 1) 0 0 cs w (omega arith) r e)
+    start o cs step.End e r = rw (at-the-end t o s 0 cs (all-unread t o s cs r) e) starts-empty
+    start o cs (step.Refused w) e r = absurd (never-refused t o s 0 cs (all-unread t o s cs r) w e)
     start o cs (step.Command c next) e r =
-        let w : Onward t o s (length s + 1) 0 c next cs = onward t o s (length s + 1) 0 0 cs c next (omega arith) r e in
+        let w : Onward t o s c next cs = onward t o s 0 cs (all-unread t o s cs r) c next e in
         rw (w .splits) (starts c (w .behind) (begins t o s c (w .behind) (rw (w .splits) at r)))
 
     -- b is the box of what was passed of the commands cs; from `at` on the commands `rest` are read
     pub record Going (o : Point) (cs : List Command) (b : Bounds) (at : ℕ) : Type 0 where
       pub rest : List Command
-      pub fuel : ℕ
-      pub index : ℕ
-      pub enough : length s < fuel + at
-      pub inside : at ≤ length s
-      pub reads : readFrom fuel t o s at index ≡ path rest
+      pub unread : Unread t o s at rest
       pub all : boxFrom b (pathPoints t rest) ≡ pathBox t cs
 
     pub record Growing (b : Bounds) (at : ℕ) : Type 0 where
       pub going : (o : Point) (cs : List Command) → readList t o s ≡ path cs → Going o cs b at
 
     begun : (b : Bounds) → b ≡ startOf t (stepAt s 0) → (o : Point) (cs : List Command) → readList t o s ≡ path cs → Going o cs b 0
-    unfolding readList
     begun b h o cs e = record {
       rest = cs;
-      fuel = length s + 1;
-      index = 0;
-      enough = omega arith;
-      inside = omega arith;
-      reads = e;
+      unread = all-unread t o s cs e;
       all = rw h (start o cs (stepAt s 0) refl e);
     }
 
@@ -94,15 +81,10 @@ module _ (t : Transform) where
         onto : (o : Point) (cs : List Command) → Going o cs b at → Going o cs b′ next
         unfolding pathPoints
         onto o cs h =
-            let n = next-in s at k next e in
-            let w : Onward t o s (h .fuel) (h .index) k next (h .rest) = onward t o s (h .fuel) at (h .index) (h .rest) k next (omega arith) (h .reads) e in
+            let w : Onward t o s k next (h .rest) = onward t o s at (h .rest) (h .unread) k next e in
             record {
               rest = w .behind;
-              fuel = h .fuel - 1;
-              index = h .index + 1;
-              enough = omega (arith, n .past, n .inside);
-              inside = n .inside;
-              reads = w .reads;
+              unread = w .unread;
               all = rw (d, ← box-append b (movedPoints t k) (pathPoints t (w .behind))) (rw (w .splits) at (h .all));
             }
 
@@ -111,12 +93,12 @@ module _ (t : Transform) where
 
       ending : (o : Point) (cs : List Command) → stepAt s at ≡ step.End → Going o cs b at → b ≡ pathBox t cs
       unfolding pathPoints boxFrom
-      ending o cs e h = rw (at-the-end t o s (h .fuel) at (h .index) (h .rest) (omega arith) (h .reads) e) at (h .all)
+      ending o cs e h = rw (at-the-end t o s at (h .rest) (h .unread) e) at (h .all)
 
       pub ended : stepAt s at ≡ step.End → Boxes t s b
       ended e = record { boxes = λ o cs r. ending o cs e (g .going o cs r) }
 
       pub turned : (w : Reason) → stepAt s at ≡ step.Refused w → Boxes t s b
       turned w e = record {
-        boxes = λ o cs r. let h = g .going o cs r in absurd (never-refused t o s (h .fuel) at (h .index) (h .rest) w (omega arith) (h .reads) e);
+        boxes = λ o cs r. let h = g .going o cs r in absurd (never-refused t o s at (h .rest) (h .unread) w e);
       }

@@ -2,7 +2,7 @@
 -- with the offset added, the box of an accepted list lies where geometry's placement is never `Outside`.
 use Prim.Native.Nat.{ℕ, _+_, _*_, _/_, _%_, _^_, _≤_, _<_}
 use mathlib.Core.Path.{_≡_, refl}
-use mathlib.Core.Bool.{Bool, true, false, not, cond, _&&_}
+use mathlib.Core.Bool.{Bool, true, false, not, cond}
 use mathlib.Core.List.{List, [], _∷_, _++_, map}
 use native.Mathlib.Nat.{div-lt-iff-lt-mul}
 use native.Mathlib.Omega.{arith}
@@ -20,6 +20,7 @@ use Rattle.geometry.specs.Placing.{reaches, within}
 use Rattle.fixed.specs.declared.Fix.{Fix}
 use Rattle.fixed.specs.declared.Fix.the-variants.{Fixed, Refused}
 use Rattle.fixed.specs.Fixed.{limit, heldOf, pickFix, withinLimit, toFixed, spotFrom, spotOf}
+use Rattle.line.proofs.Tests.{both-true}
 use Rattle.command.specs.declared.Command.{Command}
 use Rattle.command.specs.Commands.{pointsOf}
 use Rattle.path.specs.Reading.{path, passed, spotAt, allPass, readList}
@@ -134,11 +135,6 @@ module _ (t : Transform) (o : Point) where
   abbrev Placed : Point → Type 0
   Placed p = Parts Right Up p
 
-  both : (a b : Bool) → (a && b) ≡ true → (a ≡ true) × (b ≡ true)
-  both true true h = (refl, refl)
-  both true false h = absurd (let z : _≡_ {A = ℕ} 0 1 = cc in omega arith)
-  both false b h = absurd (let z : _≡_ {A = ℕ} 0 1 = cc in omega arith)
-
   spot-placed : (p : Point) → passed (spotAt t o p) ≡ true → Placed (moved t p)
   unfolding spotAt
   spot-placed p h = let b = spot-small (shifted o (moved t p)) h in record { x-has = b .x-small; y-has = b .y-small }
@@ -147,7 +143,7 @@ module _ (t : Transform) (o : Point) where
   unfolding allPass
   all-placed [] h = nil
   all-placed (p ∷ ps) h =
-      let b = both (passed (spotAt t o p)) (allPass t o ps) h in
+      let b = both-true (passed (spotAt t o p)) (allPass t o ps) h in
       cons (spot-placed p (b .0)) (all-placed ps (b .1))
 
   path-placed : {i : ℕ} {cs : List Command} → FineFrom t o i cs → Every Placed (pathPoints t cs)

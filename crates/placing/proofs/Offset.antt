@@ -10,10 +10,11 @@ use lib.IntN.{ℤ, pos}
 use lib.Ieee.{Float, inf, fin, binary32, up, down, odd, units, round, sum, add, neg, le, ofBits}
 use lib.Ieee.Fits.{down-pos, round-is}
 use lib.Ieee.Order.{round-mono}
+use Rattle.float.specs.Cut.{zeroF}
 use Rattle.float.proofs.Rounding.{neg-round}
 use Rattle.geometry.specs.declared.Point.{Point}
 use Rattle.geometry.specs.declared.Transform.{Transform}
-use Rattle.geometry.specs.Affine.{zeroF, plus, shifted}
+use Rattle.geometry.specs.Affine.{plus, shifted}
 use Rattle.geometry.specs.Box.{boxOf}
 use Rattle.fixed.specs.Fixed.{spotOf}
 use Rattle.path.specs.Reading.{passed}

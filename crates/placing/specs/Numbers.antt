@@ -1,7 +1,7 @@
 -- Document 01's number, index and values for each answer: "refused, they give number and index, with box, offset and placement all 0". An accepted
 -- one has number and index 0.
 use lib.IntN.{pos}
-use Rattle.geometry.specs.Affine.{zeroF}
+use Rattle.float.specs.Cut.{zeroF}
 use Rattle.path.specs.Refusals.{numberOf}
 use Rattle.placing.specs.declared.Boxed.{Boxed}
 use Rattle.placing.specs.declared.Boxed.the-variants as boxed

@@ -5,12 +5,13 @@ use mathlib.Core.Bool.{Bool, true, false}
 use mathlib.Core.List.{List, [], _∷_, _++_, map}
 use lib.ListN.{length}
 use lib.Ieee.{ofBits, add, mul, neg}
+use Rattle.float.specs.Cut.{zeroF}
 use Rattle.float.specs.Round.{floorZ, ceilZ, floorOf}
 use Rattle.geometry.specs.declared.Point.{Point}
 use Rattle.geometry.specs.declared.Transform.{Transform}
 use Rattle.geometry.specs.declared.Bounds.{Bounds}
 use Rattle.geometry.specs.declared.Origin.{Origin}
-use Rattle.geometry.specs.Affine.{zeroF, pointOf, moved, shifted}
+use Rattle.geometry.specs.Affine.{pointOf, moved, shifted}
 use Rattle.geometry.specs.Box.{boxOf}
 use Rattle.geometry.specs.Placing.{negated, placementOf}
 use Rattle.command.specs.declared.Command.{Command}

@@ -1,44 +1,21 @@
 -- Worked values of the rules, by computation. A float is given by its bits.
-use Prim.Native.Nat.{ℕ, _/_, _%_}
+use Prim.Native.Nat.{ℕ}
 use mathlib.Core.Path.{_≡_, refl}
 use mathlib.Core.List.{List, [], _∷_, _++_}
 use lib.ListN.{replicate}
 use lib.IntN.{ℤ, pos, negsuc}
-use lib.Ieee.{Float, binary32, ofBits}
+use lib.Ieee.{ofBits}
 use Rattle.geometry.specs.declared.Point.{Point}
 use Rattle.geometry.specs.declared.Transform.{Transform}
 use Rattle.geometry.specs.declared.Origin.{Origin}
 use Rattle.geometry.specs.declared.Origin.the-variants.{TopLeft, BottomLeft}
-use Rattle.geometry.specs.Affine.{pointOf, transformOf, identityOf, translationOf}
+use Rattle.geometry.specs.Affine.{transformOf, identityOf, translationOf}
+use Rattle.geometry.specs.Bits.{float, at}
+use Rattle.list.specs.Written.{move, line, quad, curve, close}
 use Rattle.placing.specs.declared.BoxNumbers.{BoxNumbers}
 use Rattle.placing.specs.declared.PlaceNumbers.{PlaceNumbers}
 use Rattle.placing.specs.Placing.{boundsOf, laidOf}
 use Rattle.placing.specs.Numbers.{boxNumbersOf, placeNumbersOf}
-
--- ---- floats, points and records by their bits
-abbrev float : ℕ → Float
-float w = ofBits binary32 w
-
-abbrev at : ℕ → ℕ → Point
-at a b = pointOf (float a) (float b)
-
-abbrev four : ℕ → List ℕ
-four w = w % 256 ∷ w / 0x100 % 256 ∷ w / 0x1_0000 % 256 ∷ w / 0x100_0000 ∷ []
-
-abbrev move : ℕ → ℕ → List ℕ
-move x y = 0x0A ∷ 0x00 ∷ 0x01 ∷ 0x00 ∷ four x ++ four y
-
-abbrev line : ℕ → ℕ → List ℕ
-line x y = 0x0A ∷ 0x00 ∷ 0x02 ∷ 0x00 ∷ four x ++ four y
-
-abbrev quad : ℕ → ℕ → ℕ → ℕ → List ℕ
-quad a b x y = 0x12 ∷ 0x00 ∷ 0x03 ∷ 0x00 ∷ four a ++ four b ++ four x ++ four y
-
-abbrev curve : ℕ → ℕ → ℕ → ℕ → ℕ → ℕ → List ℕ
-curve a b c d x y = 0x1A ∷ 0x00 ∷ 0x04 ∷ 0x00 ∷ four a ++ four b ++ four c ++ four d ++ four x ++ four y
-
-abbrev close : List ℕ
-close = 0x02 ∷ 0x00 ∷ 0x05 ∷ 0x00 ∷ []
 
 -- the identity with tx = ty = −0
 abbrev still : Transform

@@ -1,7 +1,7 @@
 -- The marks that the pen has made, and those of the lines to the points that are left, are all the marks of the quad's lines.
 use Prim.Native.Nat.{ℕ, _+_, _-_, _/_, _%_, _^_}
 use mathlib.Core.Path.{_≡_, refl, sym, ap, _∙_, subst}
-use mathlib.Core.List.{List, [], _∷_, _++_, append-assoc, append-nil}
+use mathlib.Core.List.{List, [], _++_, append-assoc, append-nil}
 use native.Mathlib.Omega.{arith}
 use Rattle.storage.specs.Answers.{Within}
 use Rattle.fixed.specs.declared.FixedPoint.{FixedPoint}
@@ -13,18 +13,11 @@ use Rattle.pen.specs.Drawing.{Drew}
 use Rattle.pen.proofs.Adding.{drew-none, drew-then}
 use Rattle.line.specs.Range.{Reach}
 use Rattle.line.specs.Lines.{lineMarks, along}
+use Rattle.line.proofs.Points.{along-next, along-none}
 use Rattle.quad.specs.Quads.{bend, doublings, quadPoints}
 use Rattle.quad.specs.Stack.{halved}
 use Rattle.quad.proofs.Doubling.{eight}
 use Rattle.quad.proofs.Stack.{Stacked, begin, begun, pushed, popped}
-
-along-cons : (f : Frame) (a b : FixedPoint) (bs : List FixedPoint) → along f a (b ∷ bs) ≡ lineMarks f a b ++ along f b bs
-unfolding along
-along-cons f a b bs = refl
-
-along-nil : (f : Frame) (a : FixedPoint) → along f a [] ≡ []
-unfolding along
-along-nil f a = refl
 
 -- the marks that are to be made, from the stack as it is at first
 abbrev pub allMarks : Frame → FixedPoint → List FixedPoint → List Mark
@@ -67,7 +60,7 @@ module _ {f : Frame} {cap : ℕ} {all : List Mark} {ws₀ : List ℕ} {pen₀ : 
     parted =
         let p = popped (g .stack) h in
         append-assoc (g .done) (lineMarks f from (pointOf l a)) (along f (pointOf l a) (p .next))
-        ∙ ap (λ (ms : List Mark). g .done ++ ms) (sym (along-cons f from (pointOf l a) (p .next)))
+        ∙ ap (λ (ms : List Mark). g .done ++ ms) (sym (along-next f from (pointOf l a) (p .next)))
         ∙ ap (λ (ps : List FixedPoint). g .done ++ along f from ps) (sym (p .is))
         ∙ g .same
 
@@ -80,7 +73,7 @@ module _ {f : Frame} {cap : ℕ} {all : List Mark} {ws₀ : List ℕ} {pen₀ : 
         let p = popped (g .stack) h in
         subst (λ (ms : List Mark). Drew f cap ws₀ ws′ pen₀ pen′ ms)
         (sym (append-nil (g .done ++ line))
-        ∙ ap (λ (ms : List Mark). (g .done ++ line) ++ ms) (sym (along-nil f (pointOf l a)))
+        ∙ ap (λ (ms : List Mark). (g .done ++ line) ++ ms) (sym (along-none f (pointOf l a)))
         ∙ ap (λ (ps : List FixedPoint). (g .done ++ line) ++ along f (pointOf l a) ps) (sym (p .last z))
         ∙ parted)
         drew

@@ -1,5 +1,5 @@
 -- The points to which a quad's lines go: 2 ^ n of them after n halvings, the last one the quad's end, and each within whatever means of points keep.
-use Prim.Native.Nat.{ℕ, zero, suc, _^_, _≤_, _<_}
+use Prim.Native.Nat.{ℕ, zero, suc, _^_, _≤_}
 use mathlib.Core.Path.{_≡_, refl, sym, ap, _∙_}
 use mathlib.Core.List.{List, [], _∷_, _++_, append-assoc}
 use native.Mathlib.Omega.{arith}
@@ -11,6 +11,7 @@ use Rattle.fixed.specs.Fixed.{cell}
 use Rattle.fixed.specs.Split.{mid, mid4, Between}
 use Rattle.fixed.proofs.Range.{Kept, x-kept, y-kept}
 use Rattle.line.specs.Range.{Reach}
+use Rattle.line.proofs.Points.{reach-kept}
 use Rattle.quad.specs.Quads.{bend, doublings, quadHalves, quadPoints}
 use Rattle.quad.proofs.Doubling.{eight}
 
@@ -105,19 +106,5 @@ module _ (lo hi : ℕ) (a c b : FixedPoint) where
   points-rows p q r = points-keep (λ p. Between lo hi (cell (p .y))) (rows-kept lo hi) a c b p q r
 
 -- within reach
-pub reach-kept : Kept Reach
-reach-kept = record {
-  two = λ p q. record { x-low = omega arith; x-high = omega arith; y-low = omega arith; y-high = omega arith };
-  three = λ p q r. record { x-low = omega arith; x-high = omega arith; y-low = omega arith; y-high = omega arith };
-  four = λ p q r s. record { x-low = omega arith; x-high = omega arith; y-low = omega arith; y-high = omega arith };
-}
-
 pub points-reach : (a c b : FixedPoint) → Reach a → Reach c → Reach b → Each Reach (quadPoints a c b)
 points-reach a c b p q r = points-keep Reach reach-kept a c b p q r
-
--- from a row on, and before a row: the lines of a quad that is past one band edge are past it too
-pub past-kept : (end : ℕ) → Kept (λ p. end ≤ cell (p .y))
-past-kept end = record { two = λ p q. omega arith; three = λ p q r. omega arith; four = λ p q r s. omega arith }
-
-pub ahead-kept : (first : ℕ) → Kept (λ p. cell (p .y) < first)
-ahead-kept first = record { two = λ p q. omega arith; three = λ p q r. omega arith; four = λ p q r s. omega arith }

@@ -4,17 +4,17 @@ use mathlib.Core.Path.{_≡_, refl, sym, ap, _∙_, subst}
 use mathlib.Core.List.{List, [], _∷_, _++_, append-assoc, append-nil}
 use mathlib.Core.Logic.{⊎-elim}
 use native.Mathlib.Omega.{arith}
-use native.Mathlib.Nat.{pow-suc, add-comm, add-zero, le-of-suc-le-suc, eq-zero-or-pos}
+use native.Mathlib.Nat.{pow-suc, add-comm, eq-zero-or-pos}
 use lib.ListN.{length, set, length-set, replicate}
 use lib.Pow.{pow-pos}
-use lib.Seq.{getD-set-same, getD-set-other}
 use Rattle.fixed.specs.declared.FixedPoint.{FixedPoint}
 use Rattle.fixed.specs.Split.{zeroPoint, pointOf, mid, mid4, splitQuad, Every}
 use Rattle.fixed.proofs.Range.{quad-keeps}
+use Rattle.fixed.proofs.Stored.{puts, puts-low, puts-at}
 use Rattle.line.specs.Range.{Reach}
+use Rattle.line.proofs.Points.{reach-kept}
 use Rattle.quad.specs.Quads.{quadHalves}
 use Rattle.quad.specs.Stack.{partAt, above, halved}
-use Rattle.quad.proofs.Points.{reach-kept}
 use Rattle.quad.proofs.Depths.{Rising, none, more, rising-few, rising-from, lines, lines-few, lines-by, odd-multiple, even-deep, half-odd, odd-flat}
 
 -- those of a part of depth e at place i
@@ -32,22 +32,6 @@ waiting-same l m [] h = refl
 waiting-same l m (e ∷ es) h =
     let r = waiting-same l m es (λ i g. h i (omega arith)) in
     rw (h (2 * length es) (omega arith), h (2 * length es + 1) (omega arith), h (2 * length es + 2) (omega arith), r)
-
--- vs stored one after the other, from place i on
-abbrev puts : List FixedPoint → ℕ → List FixedPoint → List FixedPoint
-puts l i [] = l
-puts l i (v ∷ vs) = puts (set l i v) (i + 1) vs
-
-puts-low : (l : List FixedPoint) (i : ℕ) (vs : List FixedPoint) (j : ℕ) → j < i → pointOf (puts l i vs) j ≡ pointOf l j
-puts-low l i [] j h = refl
-puts-low l i (v ∷ vs) j h = puts-low (set l i v) (i + 1) vs j (omega arith) ∙ getD-set-other l i j v zeroPoint (λ (e : j ≡ i). omega arith)
-
-puts-at : (l : List FixedPoint) (i : ℕ) (vs : List FixedPoint) (j : ℕ) → i + length vs ≤ length l → j < length vs → pointOf (puts l i vs) (i + j) ≡ pointOf vs j
-puts-at l i [] j h g = absurd (omega (arith, g))
-puts-at l i (v ∷ vs) zero h g = rw add-zero (puts-low (set l i v) (i + 1) vs i (omega arith) ∙ getD-set-same l i v zeroPoint (omega (arith, h)))
-puts-at l i (v ∷ vs) (suc j) h g =
-    let e : i + suc j ≡ i + 1 + j = omega arith in
-    rw e (puts-at (set l i v) (i + 1) vs j (simp length-set (omega (arith, h))) (le-of-suc-le-suc g))
 
 four : List FixedPoint → List FixedPoint
 four s = pointOf s 1 ∷ pointOf s 2 ∷ pointOf s 3 ∷ pointOf s 4 ∷ []

@@ -1,17 +1,14 @@
 -- Document 01, "Lines, curves, cells": a quad from a to b, with the control point c.
-use Prim.Native.Nat.{ℕ, zero, suc, _+_, _*_, _-_, _/_, max}
+use Prim.Native.Nat.{ℕ, zero, suc, _+_, _*_, _/_, max}
 use mathlib.Core.Bool.{Bool, cond, _&&_, _||_}
 use mathlib.Core.List.{List, [], _∷_, _++_}
 use lib.Dec.{ltb}
 use Rattle.fixed.specs.declared.FixedPoint.{FixedPoint}
+use Rattle.fixed.specs.Fixed.{apart}
 use Rattle.fixed.specs.Split.{mid, mid4}
 use Rattle.pen.specs.declared.Frame.{Frame}
 use Rattle.pen.specs.Marks.{Mark}
 use Rattle.line.specs.Lines.{past, ahead, along}
-
--- |m − n|
-abbrev pub apart : ℕ → ℕ → ℕ
-apart m n = (m - n) + (n - m)
 
 -- the larger |p0 + p2 − 2c|
 abbrev pub bend : FixedPoint → FixedPoint → FixedPoint → ℕ

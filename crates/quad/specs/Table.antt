@@ -1,23 +1,11 @@
 -- Worked quads, by computation.
-use Prim.Native.Nat.{ℕ, _+_, _-_}
 use mathlib.Core.Path.{_≡_, refl}
 use mathlib.Core.List.{[], _∷_}
 use lib.ListN.{length}
-use Rattle.fixed.specs.declared.FixedPoint.{FixedPoint}
-use Rattle.fixed.specs.Fixed.{bias}
+use Rattle.fixed.specs.Points.{above, below, at}
 use Rattle.pen.specs.declared.Frame.{Frame}
 use Rattle.line.specs.Lines.{along}
 use Rattle.quad.specs.Quads.{quadPoints, quadMarks}
-
--- n and −n, as they are held
-abbrev above : ℕ → ℕ
-above n = bias + n
-
-abbrev below : ℕ → ℕ
-below n = bias - n
-
-abbrev at : ℕ → ℕ → FixedPoint
-at x y = record { x = x; y = y }
 
 -- the number is 64: one line
 pub one-line :

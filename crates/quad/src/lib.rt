@@ -5,11 +5,11 @@ use pen::Frame;
 use pen::Pen;
 ghost use mathlib.Core.Path.{_≡_};
 ghost use Prim.Native.Nat.{_^_, _≤_};
-ghost use Rattle.fixed.specs.Fixed.{cell};
+ghost use Rattle.fixed.specs.Fixed.{cell, apart};
 ghost use Rattle.storage.specs.Answers.{Within};
 ghost use Rattle.pen.specs.Drawing.{Ready, Drew};
 ghost use Rattle.line.specs.Range.{Reach};
-ghost use Rattle.quad.specs.Quads.{apart, bend, doublings, allPast, allAhead, quadMarks};
+ghost use Rattle.quad.specs.Quads.{bend, doublings, allPast, allAhead, quadMarks};
 ghost use Rattle.quad.specs.Stack.{halved};
 
 // |m - n|

@@ -5,7 +5,7 @@ use Rattle.fixed.specs.declared.FixedPoint.{FixedPoint}
 use Rattle.fixed.specs.Fixed.{bias, cell}
 use Rattle.storage.specs.Deposits.{Deposit}
 use Rattle.pen.specs.declared.Frame.{Frame}
-use Rattle.pen.specs.Marks.{Mark, enter, Stand, nowhere, after, Pair, left, lastOf, seen, deposits}
+use Rattle.pen.specs.Marks.{Mark, enter, Stand, nowhere, Pair, whole, seen, deposits}
 use Rattle.pen.specs.Drawing.{lifted}
 use Rattle.line.specs.Lines.{lineMarks}
 use Rattle.quad.specs.Quads.{quadMarks}
@@ -63,7 +63,7 @@ depositsOf f ks = deposits f (marks f ks)
 
 -- what is left from a stand on: the last subpath is closed, the last cell is stored
 abbrev pub endOf : Frame → Stand → FixedPoint → FixedPoint → List Pair
-endOf f st a s = left st (lineMarks f a s) ++ lastOf (after st (lineMarks f a s))
+endOf f st a s = whole st (lineMarks f a s)
 
 abbrev pub begun : Track
 begun = record { pen = lifted; at = corner; start = corner }

@@ -5,16 +5,12 @@ use mathlib.Core.Path.{_≡_, refl}
 use mathlib.Core.List.{List, [], _∷_, map}
 use lib.Dec.{eqb}
 use Rattle.fixed.specs.declared.FixedPoint.{FixedPoint}
-use Rattle.fixed.specs.Fixed.{bias}
+use Rattle.fixed.specs.Points.{point}
 use Rattle.storage.specs.Deposits.{Deposit, coverOf, areaOf, distinct, sumOf}
 use Rattle.pen.specs.declared.Frame.{Frame}
 use Rattle.raster.specs.declared.Stroke.{Stroke}
 use Rattle.raster.specs.declared.Stroke.the-variants.{Move, Line, Quad, Cubic, Close}
 use Rattle.raster.specs.Path.{depositsOf}
-
--- a point in 256ths from the corner
-abbrev at : ℕ → ℕ → FixedPoint
-at x y = record { x = bias + x; y = bias + y }
 
 abbrev label : ℕ → ℕ → Frame
 label width height = record { wide = 8192 + width; first = 8192; end = 8192 + height }
@@ -42,13 +38,13 @@ pub record Stores (f : Frame) (ks : List Stroke) (count : ℕ) (cells : List Cel
   pub sums : map (summed (depositsOf f ks)) cells ≡ cells
 
 pub record Table : Type 0 where
-  pub k4 : Stores (label 2 1) (Move (at 0 0) ∷ Line (at 256 256) ∷ Line (at 0 256) ∷ Close ∷ []) 2 (cell 1 4294967295 65280 ∷ cell 2 1 0 ∷ [])
-  pub down-right : Stores (label 3 2) (back (at 100 20) (at 600 300)) 4 (cell 1 87 30972 ∷ cell 2 143 36608 ∷ cell 3 4294967066 4294925814 ∷ cell 8195 0 4294963820 ∷ [])
-  pub up-left : Stores (label 3 2) (back (at 600 300) (at 100 20)) 5 (cell 1 149 16228 ∷ cell 2 4294967153 4294930688 ∷ cell 3 4294967290 4294967242 ∷ cell 8193 44 8800 ∷ cell 8195 4294967252 4294963028 ∷ [])
-  pub down-left : Stores (label 3 2) (back (at 600 20) (at 100 300)) 4 (cell 1 4294967104 4294939192 ∷ cell 2 143 36608 ∷ cell 3 49 4312 ∷ cell 8193 0 3432 ∷ [])
-  pub up-right : Stores (label 3 2) (back (at 100 300) (at 600 20)) 5 (cell 1 4294967252 4294948200 ∷ cell 2 4294967153 4294930688 ∷ cell 3 187 37224 ∷ cell 8193 4294967252 4294955064 ∷ cell 8195 44 7744 ∷ [])
-  pub quad : Stores (label 3 2) (Move (at 0 0) ∷ Quad (at 700 0) (at 700 500) ∷ []) 5 (cell 1 4294967139 4294927104 ∷ cell 2 20 19680 ∷ cell 3 137 17894 ∷ cell 8194 4294967187 4294928274 ∷ cell 8195 109 54003 ∷ [])
-  pub cubic : Stores (label 3 3) (Move (at 0 0) ∷ Cubic (at 0 700) (at 700 700) (at 700 0) ∷ []) 6 (cell 1 256 8558 ∷ cell 3 4294967040 4294880191 ∷ cell 8193 244 57173 ∷ cell 8194 4294967257 4294945674 ∷ cell 8195 4294967091 4294931715 ∷ cell 16386 0 4294965983 ∷ [])
+  pub k4 : Stores (label 2 1) (Move (point 0 0) ∷ Line (point 256 256) ∷ Line (point 0 256) ∷ Close ∷ []) 2 (cell 1 4294967295 65280 ∷ cell 2 1 0 ∷ [])
+  pub down-right : Stores (label 3 2) (back (point 100 20) (point 600 300)) 4 (cell 1 87 30972 ∷ cell 2 143 36608 ∷ cell 3 4294967066 4294925814 ∷ cell 8195 0 4294963820 ∷ [])
+  pub up-left : Stores (label 3 2) (back (point 600 300) (point 100 20)) 5 (cell 1 149 16228 ∷ cell 2 4294967153 4294930688 ∷ cell 3 4294967290 4294967242 ∷ cell 8193 44 8800 ∷ cell 8195 4294967252 4294963028 ∷ [])
+  pub down-left : Stores (label 3 2) (back (point 600 20) (point 100 300)) 4 (cell 1 4294967104 4294939192 ∷ cell 2 143 36608 ∷ cell 3 49 4312 ∷ cell 8193 0 3432 ∷ [])
+  pub up-right : Stores (label 3 2) (back (point 100 300) (point 600 20)) 5 (cell 1 4294967252 4294948200 ∷ cell 2 4294967153 4294930688 ∷ cell 3 187 37224 ∷ cell 8193 4294967252 4294955064 ∷ cell 8195 44 7744 ∷ [])
+  pub quad : Stores (label 3 2) (Move (point 0 0) ∷ Quad (point 700 0) (point 700 500) ∷ []) 5 (cell 1 4294967139 4294927104 ∷ cell 2 20 19680 ∷ cell 3 137 17894 ∷ cell 8194 4294967187 4294928274 ∷ cell 8195 109 54003 ∷ [])
+  pub cubic : Stores (label 3 3) (Move (point 0 0) ∷ Cubic (point 0 700) (point 700 700) (point 700 0) ∷ []) 6 (cell 1 256 8558 ∷ cell 3 4294967040 4294880191 ∷ cell 8193 244 57173 ∷ cell 8194 4294967257 4294945674 ∷ cell 8195 4294967091 4294931715 ∷ cell 16386 0 4294965983 ∷ [])
 
 pub table : Table
 unfolding depositsOf distinct sumOf

@@ -1,23 +1,11 @@
 -- Each return is the case of `spotFrom` that the two answers of `to_fixed` pick. Assumes nothing.
-use mathlib.Core.Path.{_≡_, refl, sym}
-use mathlib.Core.Bool.{Bool, true, false}
-use Prim.Native.Nat.{_≤_}
+use mathlib.Core.Path.{sym}
 use native.Mathlib.Omega.{arith}
-use lib.Dec.{lit≤}
-use mir.Val.{boolByte}
-use Rattle.fixed.specs.Fixed.{oneIf, spotFrom, spotOf}
 use borrow.Author.Needs.{needs}
+use Rattle.geometry.proofs.Reach.{byte-is, byte-le}
+use Rattle.fixed.specs.Fixed.{spotFrom, spotOf}
 use Rattle.fixed.proofs.from_point.Statement.{statement}
 use Rattle.fixed.proofs.from_point.Tie as tie
-
--- a bool as a number
-byte-is : (r : Bool) → boolByte r ≡ oneIf r
-byte-is true = refl
-byte-is false = refl
-
-byte-le : (r : Bool) → boolByte r ≤ 1
-byte-le true = lit≤ tt
-byte-le false = lit≤ tt
 
 to-fixed-requires : tie.Need-to-fixed-requires
 to-fixed-requires c κs = search needs

@@ -1,30 +1,24 @@
 -- `float::sized` meets its contract: w is read from the fields of its bits. Assumes nothing.
 use mathlib.Core.Path.{_≡_, sym, ap, _∙_, subst}
-use mathlib.Core.Bool.{Bool, true, false, not}
+use mathlib.Core.Bool.{Bool, true, not}
 use Prim.Native.Nat.{ℕ, _-_, _/_, _%_, _*_, _^_, _<_, _≤_}
 use native.Mathlib.Omega.{arith}
 use lib.Dec.{T, eqb, leb}
 use lib.Pow.{pow-pos}
-use lib.Ieee.{Float, nan, inf, fin, binary32, toBits, fits, isNan, ne, ofFields}
-use lib.Ieee.Compare.{differs-from-itself, nan-differs}
+use lib.Ieee.{Float, binary32, toBits, fits, ne, ofFields}
+use lib.Ieee.Compare.{differs-from-itself}
 use denote.Floats.{passes}
 use borrow.Author.Needs.{needs}
 use Rattle.float.specs.declared.Cut.{Cut}
 use Rattle.float.specs.declared.Cut.the-variants.{Near, Far}
 use Rattle.float.specs.Cut.{sizedOf}
-use Rattle.float.proofs.Fields.{high, low, mid, expOf, digitsOf, read, whole-pattern, shifted}
+use Rattle.float.proofs.Fields.{high, low, mid, expOf, digitsOf, no-nan, read, whole-pattern, shifted}
 use Rattle.float.proofs.sized.Statement.{statement}
 use Rattle.float.proofs.sized.Tie as tie
 
 at-nan : (b : Bool) (w : Float) → ne w w ≡ true → Far ≡ sizedOf w b
 unfolding sizedOf
 at-nan b w h = ap (λ (x : Float). sizedOf x b) (sym (differs-from-itself w (passes _ h)))
-
-no-nan : (w : Float) → ne w w ≡ false → T (not (isNan w))
-unfolding isNan
-no-nan nan h = subst T (sym nan-differs ∙ h) tt
-no-nan (inf s) h = tt
-no-nan (fin s m e) h = tt
 
 -- the cut of w is that of what its fields are read as
 cut-read : (w : Float) (b : Bool) (x : Cut) → T (fits binary32 w) → sizedOf (ofFields binary32 (leb (2 ^ 31) (toBits binary32 w)) (expOf (toBits binary32 w)) (digitsOf (toBits binary32 w))) b ≡ x → x ≡ sizedOf w b

@@ -4,8 +4,8 @@ use mathlib.Core.Logic.{⊎-elim}
 use mathlib.Core.List.{[]}
 use native.Mathlib.Omega.{arith}
 use borrow.Author.Tests.{eqb-true, eqb-false, not-true, not-false}
+use Rattle.float.specs.Differences.{_⊖_}
 use Rattle.pen.proofs.Adding.{drew-then, drew-none, drew-give, still-ready}
-use Rattle.line.specs.Signs.{_⊖_}
 use Rattle.line.specs.Walk.{crossed}
 use Rattle.line.specs.Course.{B, togo}
 use Rattle.line.proofs.Walking.{Running, drawn-more, drawn-all, drew-as, crossed-step, crossed-last, far-x, far-y}

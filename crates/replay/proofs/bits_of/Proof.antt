@@ -1,18 +1,8 @@
 -- `replay::bits_of` is safe: what equals itself is not a NaN. Assumes nothing.
-use mathlib.Core.Path.{_≡_, sym, _∙_, subst}
-use mathlib.Core.Bool.{Bool, true, false, not}
-use lib.Dec.{T}
-use lib.Ieee.{Float, nan, inf, fin, isNan, ne}
-use lib.Ieee.Compare.{nan-differs}
 use borrow.Author.Needs.{needs}
+use Rattle.float.proofs.Fields.{no-nan}
 use Rattle.replay.proofs.bits_of.Statement.{statement}
 use Rattle.replay.proofs.bits_of.Tie as tie
-
-no-nan : (w : Float) → ne w w ≡ false → T (not (isNan w))
-unfolding isNan
-no-nan nan h = subst T (sym nan-differs ∙ h) tt
-no-nan (inf s) h = tt
-no-nan (fin s m e) h = tt
 
 returns : tie.Need-returns
 returns c = search needs

@@ -6,10 +6,10 @@ use mathlib.Core.Logic.{_⊎_, inl, inr, ⊎-elim}
 use native.Mathlib.Omega.{arith}
 use native.Mathlib.Nat.{mul-sub, mul-le-mul-left}
 use lib.Dec.{T, leb, ltb, ltb→lt, nltb→le}
-use lib.IntN.{pos, negsuc, _+ℤ_, _*ℤ_, negℤ, natAbs, +ℤ-assoc, +ℤ-comm, negℤ-+ℤ, negℤ-negℤ, pos-+ℤ-pos, *ℤ-negsuc}
+use lib.IntN.{pos, negsuc, _+ℤ_, _*ℤ_, negℤ, natAbs, +ℤ-assoc, +ℤ-comm, +ℤ-idr, negℤ-+ℤ, negℤ-negℤ, pos-+ℤ-pos, *ℤ-negsuc}
 use lib.Signed.{leZ, ltZ}
 use borrow.Author.Tests.{lt-ltb, le-ltb, le-leb, lt-leb}
-use Rattle.line.specs.Signs.{_⊖_}
+use Rattle.float.specs.Differences.{_⊖_}
 
 -- every two numbers stand so
 pub which : (a b : ℕ) → (a < b) ⊎ (b ≤ a)
@@ -28,10 +28,13 @@ pub ⊖-down : (a b : ℕ) → a < b → a ⊖ b ≡ negsuc (b - suc a)
 unfolding _⊖_
 ⊖-down a b h = rw (lt-ltb a b h)
 
+pub ⊖-zero : (a : ℕ) → a ⊖ 0 ≡ pos a
+⊖-zero a = ⊖-up a 0 (omega arith) ∙ ap pos (omega arith)
+
 -- as a sum of integers
 pub ⊖-is : (a b : ℕ) → a ⊖ b ≡ pos a +ℤ negℤ (pos b)
 unfolding _⊖_
-⊖-is a zero = ⊖-up a zero (omega arith) ∙ ap pos (omega arith)
+⊖-is a zero = ⊖-zero a ∙ sym (+ℤ-idr (pos a))
 ⊖-is a (suc b) = refl
 
 pub ⊖-add : (a b c d : ℕ) → a ⊖ b +ℤ (c ⊖ d) ≡ (a + c) ⊖ (b + d)
