@@ -1,16 +1,15 @@
 -- Bands of a label: rule 13, their sizes, and the lines of their rows.
-use Prim.Native.Nat.{ℕ, zero, suc, _+_, _*_, _-_, _≤_, _<_, min}
-use mathlib.Core.Path.{_≡_, refl, sym, ap, _∙_}
+use Prim.Native.Nat.{ℕ, zero, suc, _+_, _-_, _≤_, _<_}
+use mathlib.Core.Path.{_≡_, refl, ap}
 use mathlib.Core.Bool.{Bool, true, false, cond, _||_}
 use mathlib.Core.List.{List}
 use native.Mathlib.Omega.{arith}
-use native.Mathlib.Nat.{mul-le-mul-left}
 use borrow.Author.Tests.{lt-ltb, le-ltb}
 use Rattle.command.specs.declared.Command.{Command}
 use Rattle.sweep.specs.Masks.{rowAt}
 use Rattle.label.specs.declared.Label.{Label}
 use Rattle.label.specs.Checks.{rows}
-use Rattle.label.specs.Inking.{Sized, Lent}
+use Rattle.label.specs.Inking.{Sized}
 use Rattle.label.specs.Draw.{tooMany}
 use Rattle.claims.specs.Bands.{bandOf}
 use Rattle.bands.specs.InBands.{bandEnd, tooManyFrom}

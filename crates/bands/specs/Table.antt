@@ -1,7 +1,7 @@
 -- Labels drawn in bands, by computation: masks of 7s, workspaces of 9s.
 use Prim.Native.Nat.{ℕ}
 use mathlib.Core.Path.{_≡_, refl}
-use mathlib.Core.Bool.{true, false}
+use mathlib.Core.Bool.{true}
 use mathlib.Core.List.{List, [], _∷_}
 use lib.ListN.{replicate}
 use Rattle.sweep.specs.declared.Fill.the-variants.{NonZero}

@@ -1,8 +1,7 @@
 -- The rule that skips is an economy: a band sees the same of a pen that makes all marks and of one that leaves out those in rows outside it.
 -- A pen in a row outside the band leaves the band nothing until it enters another cell, so it is as good as a pen in no cell.
-use Prim.Native.Nat.{ℕ}
 use mathlib.Core.Path.{_≡_, refl, sym, ap, _∙_}
-use mathlib.Core.Bool.{Bool, true, false, not, _&&_}
+use mathlib.Core.Bool.{Bool, true, false, not}
 use mathlib.Core.List.{List, [], _∷_, _++_, append-assoc}
 use mathlib.Core.Logic.{_⊎_, inl, inr}
 use Rattle.fixed.specs.declared.FixedPoint.{FixedPoint}
@@ -12,7 +11,7 @@ use Rattle.pen.specs.Marks.{Mark, enter, give, Stand, nowhere, at, gave, after,
 use Rattle.pen.specs.Laws.{after-append, whole-append, seen-append}
 use Rattle.line.specs.Range.{Reach}
 use Rattle.line.specs.Lines.{ends, lineAll, skips, lineMarks}
-use Rattle.line.specs.Trail.{StandsIn, Enters, none, gives, Outside}
+use Rattle.line.specs.Trail.{StandsIn, Enters, none, Outside}
 use Rattle.line.proofs.Whole.{line-ends, line-none, line-whole, line-outside, line-skipped}
 use Rattle.line.proofs.Unseen.{StandsOutside, not-inside, gave-outside, leaving-unseen, unseen-left, unseen-after}
 

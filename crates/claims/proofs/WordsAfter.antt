@@ -8,8 +8,6 @@ use lib.Dec.{eqb, ltb}
 use lib.ListN.{length, replicate}
 use Rattle.geometry.specs.declared.Point.{Point}
 use Rattle.geometry.specs.declared.Transform.{Transform}
-use Rattle.storage.specs.Deposits.{Deposit, distinct}
-use Rattle.raster.specs.Path.{depositsOf}
 use Rattle.command.specs.declared.Command.{Command}
 use Rattle.command.specs.Commands.{isMove, pointsOf}
 use Rattle.list.specs.declared.Reason.{Reason}
@@ -18,15 +16,14 @@ use Rattle.list.specs.declared.Step.{Step}
 use Rattle.list.specs.declared.Step.the-variants as step
 use Rattle.list.specs.Records.{stepAt}
 use Rattle.path.specs.declared.Refusal.{Refusal}
-use Rattle.path.specs.declared.Refusal.the-variants.{Size, Band, Pitch, Mask, Workspace, NotFinite, Long, Full, First, Outside}
+use Rattle.path.specs.declared.Refusal.the-variants.{Size, Band, Pitch, Mask, Workspace, NotFinite, Long, First, Outside}
 use Rattle.path.specs.declared.Verdict.{Verdict}
 use Rattle.path.specs.declared.Verdict.the-variants.{Fine, Faulty}
 use Rattle.path.specs.Refusals.{numberOf, refusalOf}
 use Rattle.path.specs.Inputs.{mostBytes, finitePoint, finiteTransform, inputsOf}
 use Rattle.path.specs.Reading.{Read, refused, path, before, judged, allPass, verdictOf, readStep, readFrom, readList}
-use Rattle.path.specs.Strokes.{strokesOf}
 use Rattle.label.specs.declared.Label.{Label}
-use Rattle.label.specs.declared.Answer.the-variants.{Drawn, Refused}
+use Rattle.label.specs.declared.Answer.the-variants.{Refused}
 use Rattle.label.specs.Checks.{mostPixels, mostPitch, rows, sizesOf, andThen, checkedOf}
 use Rattle.label.specs.Draw.{Outcome, outcome, tooMany, inked, drawnFrom, checkedDraw, drawBy, drawOf}
 use Rattle.claims.specs.OldContents.{wordsAfter, WordsAfter}

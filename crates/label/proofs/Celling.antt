@@ -1,6 +1,6 @@
 -- The cells of a drawing that is not swept: its answer is the drawing's, and the words hold what the strokes store.
 use Prim.Native.Nat.{ℕ, _≤_}
-use mathlib.Core.Path.{_≡_, refl, sym, ap, _∙_}
+use mathlib.Core.Path.{_≡_, refl, sym, _∙_}
 use mathlib.Core.List.{List}
 use native.Mathlib.Omega.{arith}
 use lib.ListN.{length, replicate}
@@ -16,11 +16,10 @@ use Rattle.path.specs.declared.Judged.the-variants as judged
 use Rattle.path.specs.declared.Verdict.the-variants.{Fine, Faulty}
 use Rattle.path.specs.Reading.{Read, path, refused, readList, judgedOf}
 use Rattle.label.specs.declared.Label.{Label}
-use Rattle.label.specs.declared.Answer.{Answer}
 use Rattle.label.specs.declared.Answer.the-variants.{Drawn, Refused}
 use Rattle.label.specs.Checks.{rows, checkedOf}
-use Rattle.label.specs.Draw.{poolOf, Outcome, outcome, logOf, tooMany, inked, drawnFrom, drawOf}
-use Rattle.label.specs.Inking.{Sized, Poured, Inked, Celled}
+use Rattle.label.specs.Draw.{poolOf, logOf, tooMany, inked, drawnFrom}
+use Rattle.label.specs.Inking.{Sized, Poured, Celled}
 use Rattle.label.proofs.Pouring.{inked-full}
 use Rattle.label.proofs.Drawing.{answered, refused-not-drawn, draw-is, by-path, turned, drawn-from, faulty, drawn}
 

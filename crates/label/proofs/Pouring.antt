@@ -1,10 +1,8 @@
 -- From lent words to the rule's outcome: the heads are cleared, the strokes are stored, the rows are swept.
-use Prim.Native.Nat.{ℕ, _+_, _*_, _-_, _/_, _≤_, _<_, min}
-use mathlib.Core.Path.{_≡_, refl, sym, ap, _∙_}
-use mathlib.Core.Bool.{Bool, true, false, cond}
-use mathlib.Core.List.{List, [], _∷_, _++_}
+use Prim.Native.Nat.{ℕ, _+_, _*_, _≤_, _<_}
+use mathlib.Core.Path.{_≡_, ap, _∙_}
+use mathlib.Core.List.{List, [], _++_}
 use native.Mathlib.Omega.{arith}
-use lib.Dec.{ltb}
 use lib.ListN.{length, drop, replicate, length-append, length-drop, length-replicate}
 use borrow.Author.Tests.{lt-ltb, le-ltb}
 use Rattle.storage.specs.declared.Kept.{Kept}
@@ -13,10 +11,9 @@ use Rattle.storage.specs.Deposits.{Deposit, distinct}
 use Rattle.storage.specs.Cells.{Holds}
 use Rattle.storage.specs.Answers.{Within, Stored}
 use Rattle.storage.proofs.Pools.{cleared}
-use Rattle.pen.specs.declared.Frame.{Frame}
 use Rattle.pen.specs.Marks.{deposits}
 use Rattle.pen.specs.Drawing.{rows as frameRows, width as frameWidth, Ready}
-use Rattle.raster.specs.Path.{depositsOf, marks}
+use Rattle.raster.specs.Path.{depositsOf}
 use Rattle.sweep.specs.Masks.{Fits, Swept}
 use Rattle.sweep.proofs.Mask.{mask-is}
 use Rattle.path.specs.declared.Refusal.the-variants as refusal
@@ -24,7 +21,7 @@ use Rattle.path.specs.Strokes.{Traced}
 use Rattle.label.specs.declared.Label.{Label}
 use Rattle.label.specs.declared.Answer.the-variants.{Drawn, Refused}
 use Rattle.label.specs.Checks.{rows}
-use Rattle.label.specs.Draw.{poolOf, frameOf, outcome, wiped, paintedOf, logOf, tooMany, inked}
+use Rattle.label.specs.Draw.{poolOf, frameOf, outcome, paintedOf, logOf, tooMany, inked}
 use Rattle.label.specs.Inking.{Sized, Lent, Poured, Inked}
 
 moved : (ws : List ℕ) {n n′ w w′ : ℕ} (cap : ℕ) (log : List Deposit) (r : Kept) → n ≡ n′ → w ≡ w′ → Stored ws n w cap log r → Stored ws n′ w′ cap log r

@@ -1,5 +1,5 @@
 -- How far a point may lie from the label's corner for lines and curves to be exact: twice the point rule's range.
-use Prim.Native.Nat.{ℕ, _*_, _^_, _≤_}
+use Prim.Native.Nat.{_*_, _^_, _≤_}
 use Rattle.fixed.specs.declared.FixedPoint.{FixedPoint}
 
 pub record Reach (p : FixedPoint) : Type 0 where

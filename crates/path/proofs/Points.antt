@@ -1,7 +1,7 @@
 -- The points of a command: how they are judged one after the other, and that their fixed points are within reach.
-use Prim.Native.Nat.{ℕ, _≤_}
-use mathlib.Core.Path.{_≡_, refl, sym, _∙_}
-use mathlib.Core.Bool.{Bool, true, false, not, cond, _&&_}
+use Prim.Native.Nat.{ℕ}
+use mathlib.Core.Path.{_≡_, refl}
+use mathlib.Core.Bool.{Bool, true, false, not, _&&_}
 use mathlib.Core.List.{[], _∷_}
 use native.Mathlib.Omega.{arith}
 use lib.Dec.{eqb, lit≤}
@@ -10,14 +10,12 @@ use Rattle.geometry.specs.declared.Point.{Point}
 use Rattle.geometry.specs.declared.Transform.{Transform}
 use Rattle.geometry.specs.Affine.{moved, shifted}
 use Rattle.fixed.specs.declared.FixedPoint.{FixedPoint}
-use Rattle.fixed.specs.declared.Spot.{Spot}
 use Rattle.fixed.specs.declared.Spot.the-variants as spot
 use Rattle.fixed.proofs.Range.{spot-within}
 use Rattle.line.specs.Range.{Reach}
 use Rattle.command.specs.declared.Command.{Command}
 use Rattle.command.specs.Commands.{isMove, pointsOf}
 use Rattle.raster.specs.Path.{corner}
-use Rattle.path.specs.declared.Verdict.{Verdict}
 use Rattle.path.specs.declared.Verdict.the-variants.{Fine, Faulty}
 use Rattle.path.specs.declared.Refusal.the-variants.{First, Outside}
 use Rattle.path.specs.Reading.{spotAt, passed, allPass, verdictOf}

@@ -1,14 +1,13 @@
 -- The loop that draws a list keeps the marks that are done and those that are left.
 use Prim.Native.Nat.{ℕ}
-use mathlib.Core.Path.{_≡_, refl, ap, _∙_}
-use mathlib.Core.List.{List, [], _∷_, _++_, append-assoc, append-nil, map}
+use mathlib.Core.Path.{_≡_, refl, _∙_}
+use mathlib.Core.List.{List, [], _++_, append-assoc}
 use native.Mathlib.Omega.{arith}
-use lib.Dec.{lit≤}
 use lib.ListN.{length}
 use Rattle.geometry.specs.declared.Point.{Point}
 use Rattle.geometry.specs.declared.Transform.{Transform}
 use Rattle.storage.specs.declared.Kept.{Kept}
-use Rattle.storage.specs.declared.Kept.the-variants.{Cells, Full}
+use Rattle.storage.specs.declared.Kept.the-variants.{Cells}
 use Rattle.storage.specs.Answers.{Within}
 use Rattle.command.specs.declared.Command.{Command}
 use Rattle.list.specs.declared.Reason.{Reason}
@@ -17,15 +16,14 @@ use Rattle.list.specs.Records.{stepAt}
 use Rattle.pen.specs.declared.Frame.{Frame}
 use Rattle.pen.specs.Marks.{Mark, nowhere, whole}
 use Rattle.pen.specs.Laws.{whole-append}
-use Rattle.pen.specs.Drawing.{Ready, Added, Drew, lifted, standOf}
-use Rattle.pen.proofs.Adding.{drew-none, drew-then, added-then, still-ready}
-use Rattle.raster.specs.declared.Stroke.{Stroke}
+use Rattle.pen.specs.Drawing.{Added, Drew, lifted, standOf}
+use Rattle.pen.proofs.Adding.{drew-none, drew-then, added-then}
 use Rattle.raster.specs.declared.Track.{Track}
-use Rattle.raster.specs.Path.{corner, begun, strokeMarks, pointAfter, startAfter, marksFrom, marks, endOf}
+use Rattle.raster.specs.Path.{begun, strokeMarks, marksFrom, marks, endOf}
 use Rattle.raster.specs.Tracing.{ReachAll, Sound, Stroked}
 use Rattle.raster.proofs.Told.{still-sound, marks-end, marks-stroke}
 use Rattle.line.specs.Lines.{lineMarks}
-use Rattle.path.specs.Reading.{Read, path, readList}
+use Rattle.path.specs.Reading.{path, readList}
 use Rattle.path.specs.Strokes.{strokeOf, strokesOf, Traced}
 use Rattle.path.proofs.Points.{corner-near}
 use Rattle.path.proofs.Walk.{Unread, all-unread, Onward, at-the-end, never-refused, onward}

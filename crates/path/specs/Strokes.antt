@@ -19,7 +19,7 @@ use Rattle.pen.specs.declared.Frame.{Frame}
 use Rattle.pen.specs.Marks.{nowhere, whole}
 use Rattle.pen.specs.Drawing.{Added}
 use Rattle.raster.specs.Path.{corner, marks}
-use Rattle.path.specs.Reading.{spotAt, Read, path, readList}
+use Rattle.path.specs.Reading.{spotAt, path, readList}
 
 -- the fixed point of a spot; the corner for one outside, which no accepted list has
 abbrev pub pointIn : Spot → FixedPoint

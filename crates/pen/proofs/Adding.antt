@@ -1,22 +1,19 @@
 -- How what is added to a log comes about: by nothing, by a cell that is outside, by a full pool, by a stored pair; and one after the other.
-use Prim.Native.Nat.{ℕ, _+_, _-_, _*_, _≤_, _<_, max}
-use mathlib.Core.Path.{_≡_, refl, sym, ap, _∙_, subst}
-use mathlib.Core.Bool.{Bool, true, false, _&&_}
+use Prim.Native.Nat.{ℕ, _-_, _≤_, _<_, max}
+use mathlib.Core.Path.{_≡_, refl, sym, ap, _∙_}
 use mathlib.Core.List.{List, [], _∷_, _++_, append-assoc, append-nil}
 use native.Mathlib.Omega.{arith}
 use lib.ListN.{length}
-use lib.Dec.{ltb, leb}
 use borrow.Author.Tests.{lt-ltb, le-ltb, le-leb, lt-leb}
 use Rattle.storage.specs.declared.Kept.{Kept}
 use Rattle.storage.specs.declared.Kept.the-variants.{Cells, Full}
-use Rattle.storage.specs.Deposits.{Deposit, given, distinct}
 use Rattle.storage.specs.Laws.{distinct-mono}
-use Rattle.storage.specs.Answers.{Within, Stored, Room, Storing}
+use Rattle.storage.specs.Answers.{Within, Room, Storing}
 use Rattle.pen.specs.declared.Frame.{Frame}
 use Rattle.pen.specs.declared.Pen.{Pen}
-use Rattle.pen.specs.Marks.{Mark, enter, give, Stand, at, gave, after, Pair, pairOf, when, left, inside, placed, seen}
+use Rattle.pen.specs.Marks.{Mark, give, at, gave, after, Pair, pairOf, left, placed, seen}
 use Rattle.pen.specs.Laws.{after-append, left-append, seen-append}
-use Rattle.pen.specs.Drawing.{rows, width, Ready, Holding, Added, Drew, standOf}
+use Rattle.pen.specs.Drawing.{rows, width, Ready, Added, Drew, standOf}
 
 module _ (f : Frame) (cap : ℕ) where
   -- nothing of the pairs is seen

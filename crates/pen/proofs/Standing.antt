@@ -1,12 +1,11 @@
 -- What a pen that is in a cell leaves there, and what one that is in none.
 use Prim.Native.Nat.{ℕ, _+_, _%_, _^_}
-use mathlib.Core.Path.{_≡_, refl, sym, ap, _∙_}
-use mathlib.Core.Bool.{Bool, true, false, not, _&&_}
-use mathlib.Core.List.{List, [], _∷_, _++_, append-nil}
-use lib.Dec.{eqb}
+use mathlib.Core.Path.{_≡_, refl, ap}
+use mathlib.Core.Bool.{Bool, true, false, not}
+use mathlib.Core.List.{[], _∷_, append-nil}
 use borrow.Author.Tests.{eq-eqb, ne-eqb}
 use Rattle.pen.specs.declared.Pen.{Pen}
-use Rattle.pen.specs.Marks.{Mark, enter, give, Stand, nowhere, at, gave, after, Pair, pairOf, when, leaving, left, lastOf}
+use Rattle.pen.specs.Marks.{enter, Stand, gave, pairOf, leaving, left, lastOf}
 use Rattle.pen.specs.Drawing.{stood, standOf}
 
 turn : (b : Bool) {x : Bool} → not b ≡ x → b ≡ not x

@@ -1,11 +1,11 @@
 -- What the functions of the pen promise: from words that hold a log, the marks' deposits are added to it.
-use Prim.Native.Nat.{ℕ, _+_, _-_, _*_, _≤_, _<_}
+use Prim.Native.Nat.{ℕ, _+_, _-_, _*_, _≤_}
 use mathlib.Core.Path.{_≡_}
 use mathlib.Core.Bool.{Bool, true, false}
-use mathlib.Core.List.{List, [], _∷_, _++_}
+use mathlib.Core.List.{List, _++_}
 use lib.ListN.{length}
 use Rattle.storage.specs.declared.Kept.{Kept}
-use Rattle.storage.specs.declared.Kept.the-variants.{Cells, Full}
+use Rattle.storage.specs.declared.Kept.the-variants.{Cells}
 use Rattle.storage.specs.Deposits.{Deposit}
 use Rattle.storage.specs.Answers.{Within, Stored}
 use Rattle.pen.specs.declared.Frame.{Frame}

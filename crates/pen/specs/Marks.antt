@@ -1,6 +1,6 @@
 -- Document 01, "Lines, curves, cells": what the pen does, and which pairs it leaves in which places.
 -- A cell z, column or row, is held as z + 8192.
-use Prim.Native.Nat.{ℕ, _+_, _*_, _-_, _%_, _^_, max}
+use Prim.Native.Nat.{ℕ, _+_, _-_, _%_, _^_, max}
 use mathlib.Core.Bool.{Bool, true, false, not, _&&_}
 use mathlib.Core.List.{List, [], _∷_, _++_}
 use lib.Dec.{leb, ltb, eqb}

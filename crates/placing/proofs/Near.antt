@@ -1,6 +1,6 @@
 -- A box has each of its parts from some point, so it keeps what all the points' parts have. A part that passes the point rule lies far below 2 ^ 23:
 -- with the offset added, the box of an accepted list lies where geometry's placement is never `Outside`.
-use Prim.Native.Nat.{ℕ, _+_, _*_, _/_, _%_, _^_, _≤_, _<_}
+use Prim.Native.Nat.{ℕ, _*_, _/_, _%_, _^_, _≤_, _<_}
 use mathlib.Core.Path.{_≡_, refl}
 use mathlib.Core.Bool.{Bool, true, false, not, cond}
 use mathlib.Core.List.{List, [], _∷_, _++_, map}

@@ -5,7 +5,6 @@ use mathlib.Core.List.{List, [], _∷_, _++_}
 use Rattle.fixed.specs.declared.FixedPoint.{FixedPoint}
 use Rattle.pen.specs.declared.Frame.{Frame}
 use Rattle.pen.specs.declared.Pen.{Pen}
-use Rattle.pen.specs.Marks.{Mark}
 use Rattle.pen.specs.Drawing.{Drew}
 use Rattle.line.specs.Range.{Reach}
 use Rattle.line.specs.Lines.{lineMarks}

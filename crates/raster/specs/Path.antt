@@ -1,11 +1,10 @@
 -- Document 01, "Lines, curves, cells": the pen's way over a path.
-use Prim.Native.Nat.{ℕ}
 use mathlib.Core.List.{List, [], _∷_, _++_}
 use Rattle.fixed.specs.declared.FixedPoint.{FixedPoint}
 use Rattle.fixed.specs.Fixed.{bias, cell}
 use Rattle.storage.specs.Deposits.{Deposit}
 use Rattle.pen.specs.declared.Frame.{Frame}
-use Rattle.pen.specs.Marks.{Mark, enter, Stand, nowhere, Pair, whole, seen, deposits}
+use Rattle.pen.specs.Marks.{Mark, enter, Stand, Pair, whole, deposits}
 use Rattle.pen.specs.Drawing.{lifted}
 use Rattle.line.specs.Lines.{lineMarks}
 use Rattle.quad.specs.Quads.{quadMarks}

@@ -2,7 +2,6 @@
 use Prim.Native.Nat.{ℕ}
 use mathlib.Core.Path.{_≡_}
 use mathlib.Core.List.{List}
-use Rattle.fixed.specs.declared.FixedPoint.{FixedPoint}
 use Rattle.storage.specs.Answers.{Within}
 use Rattle.pen.specs.declared.Frame.{Frame}
 use Rattle.pen.specs.Drawing.{Drew}

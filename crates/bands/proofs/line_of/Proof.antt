@@ -1,5 +1,4 @@
 -- From the bottom when up, else from the top.
-use Rattle.bands.specs.Steps.{lineOf}
 use borrow.Author.Needs.{needs}
 use Rattle.bands.proofs.line_of.Statement.{statement}
 use Rattle.bands.proofs.line_of.Tie as tie

@@ -4,7 +4,6 @@ use mathlib.Core.Path.{_≡_, refl, ap, _∙_}
 use native.Mathlib.Omega.{arith}
 use mathlib.Core.List.{List}
 use lib.ListN.{length}
-use borrow.Author.Needs.{needs}
 use Rattle.label.specs.declared.Label.{Label}
 use Rattle.bands.specs.Steps.{lineOf}
 use Rattle.bands.proofs.Rows.{band-sized}

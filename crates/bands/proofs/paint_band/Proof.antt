@@ -1,5 +1,4 @@
 -- What was poured is swept into the band's part of the mask.
-use native.Mathlib.Omega.{arith}
 use Rattle.label.proofs.Pouring.{sweeps}
 use Rattle.bands.proofs.Painting.{not-poured, band-swept}
 use borrow.Author.Needs.{needs}

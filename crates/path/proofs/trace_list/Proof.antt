@@ -1,7 +1,6 @@
 -- The loop keeps the marks that are done and those that are left (`Tracking`); each record is four bytes or more, so it ends.
 use Prim.Native.Nat.{_-_}
 use mathlib.Core.Path.{sym, _∙_}
-use native.Mathlib.Omega.{arith}
 use lib.ListN.{length}
 use borrow.Author.Needs.{needs}
 use Rattle.list.proofs.Next.{further}

@@ -1,5 +1,4 @@
 -- A pen in no cell has no last cell; the pair of any other is handed to `set`.
-use mathlib.Core.Path.{_≡_}
 use borrow.Author.Needs.{needs}
 use Rattle.pen.proofs.Adding.{none-added}
 use Rattle.pen.proofs.Standing.{up-last, down-last}

@@ -1,5 +1,4 @@
 -- A cell that is outside is not seen, a full pool stays full, and `store` promises the rest.
-use mathlib.Core.Path.{refl}
 use native.Mathlib.Omega.{arith}
 use borrow.Author.Needs.{needs}
 use Rattle.pen.proofs.Adding.{right-added, high-added, low-added, store-added, full-added, renamed, unchanged, room}
