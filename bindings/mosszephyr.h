@@ -186,12 +186,31 @@ typedef struct MzPlacement {
  *   13         unchanged                                         all are 0
  *
  * A label that is refused with 13 may still be drawn in bands: each has the whole pool to itself,
- * and together they give the whole label's bytes.
+ * and together they give the whole label's bytes. mz_draw_in_bands draws so.
  */
 MzDrawn mz_draw(const uint8_t *list, size_t list_len, MzTransform transform, float offset_x,
                 float offset_y, bool even_odd, bool up, size_t width, size_t height, size_t pitch,
                 size_t first, size_t end, uint8_t *mask, size_t mask_len, uint32_t *words,
                 size_t words_len);
+
+/*
+ * Draws what mz_draw draws, in bands of step rows from first on, the last band with what is left:
+ * a workspace whose pool would not hold the places of all rows can hold those of each band.
+ *
+ * step              rows of a band, 0 counting as 1; with as many as end - first or more it is
+ *                   mz_draw. The list is read anew for each band, so few rows cost time
+ * mask, words       as for mz_draw with all rows; each band has for its pool what its own rows
+ *                   leave: (words_len - its rows) / 4 places rounded down, at most 16,384
+ *
+ * Refuses with 1 to 12 as mz_draw does, and with 13 exactly when one of the bands stores more
+ * distinct places than its pool holds; then the mask is unchanged, whichever band it is. What each
+ * number leaves in mask and words is as for mz_draw. Accepted, mask, records and cells are those of
+ * the rows drawn at once; so whatever mz_draw accepts gives the same here, with any step.
+ */
+MzDrawn mz_draw_in_bands(const uint8_t *list, size_t list_len, MzTransform transform,
+                         float offset_x, float offset_y, bool even_odd, bool up, size_t width,
+                         size_t height, size_t pitch, size_t first, size_t end, size_t step,
+                         uint8_t *mask, size_t mask_len, uint32_t *words, size_t words_len);
 
 /*
  * The box of all transformed points, control points included. Of parts that are equal, as 0 and

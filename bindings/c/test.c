@@ -1,6 +1,7 @@
 /*
  * The C face, called as a C or a C++ program calls it: K1, K8, K11, K12 and every refusal of
- * document 01. Prints what differs; exits non-zero if anything does. `run` builds it both ways.
+ * document 01, at once and in bands. Prints what differs; exits non-zero if anything does. `run`
+ * builds it both ways.
  */
 
 #include "../mosszephyr.h"
@@ -70,15 +71,18 @@ static List one_move(float x, float y) {
     return list;
 }
 
-/* K1's rectangle, (1,1) to (3,2). */
-static List rectangle(void) {
-    List list = one_move(1, 1);
-    line_to(&list, 3, 1);
-    line_to(&list, 3, 2);
-    line_to(&list, 1, 2);
+/* In the order of K1: right along the top first. */
+static List rectangle_of(float left, float top, float right, float bottom) {
+    List list = one_move(left, top);
+    line_to(&list, right, top);
+    line_to(&list, right, bottom);
+    line_to(&list, left, bottom);
     close_path(&list);
     return list;
 }
+
+/* K1's rectangle. */
+static List rectangle(void) { return rectangle_of(1, 1, 3, 2); }
 
 /* All that a drawing takes, and the memory that it is lent. */
 typedef struct Call {
@@ -118,6 +122,12 @@ static MzDrawn draw(Call *c) {
                    c->words_len);
 }
 
+static MzDrawn draw_in_bands(Call *c, size_t step) {
+    return mz_draw_in_bands(c->list, c->list_len, c->transform, c->offset_x, c->offset_y,
+                            c->even_odd, c->up, c->width, c->height, c->pitch, c->first, c->end,
+                            step, c->mask, c->mask_len, c->words, c->words_len);
+}
+
 /* Whether the lent words are 0 and the others are old. */
 static bool wiped(const Call *call) {
     for (size_t at = 0; at < LENGTH(call->words); at += 1) {
@@ -139,18 +149,35 @@ static bool masked(const Call *call, const uint8_t *bytes, size_t count) {
     return memcmp(call->mask, bytes, count) == 0;
 }
 
-static void expect_refusal(Call call, uint32_t number, uint32_t index) {
+/* What a refused call answered, and what it left of the memory as it was before. */
+static void check_refusal(const Call *before, const Call *after, MzDrawn drawn, uint32_t number,
+                          uint32_t index) {
     char what[32];
     snprintf(what, sizeof what, "refusal %u", (unsigned)number);
-    Call before = call;
-    MzDrawn drawn = draw(&call);
     check(drawn.number == number && drawn.index == index, what);
     check(drawn.records == 0 && drawn.cells == 0, what);
-    check(memcmp(call.mask, before.mask, sizeof call.mask) == 0, what);
+    check(memcmp(after->mask, before->mask, sizeof after->mask) == 0, what);
     if (number == MZ_ROOM) {
-        check(wiped(&call), what);
+        check(wiped(after), what);
     } else {
-        check(memcmp(call.words, before.words, sizeof call.words) == 0, what);
+        check(memcmp(after->words, before->words, sizeof after->words) == 0, what);
+    }
+}
+
+static void expect_refusal_in_bands(Call call, size_t step, uint32_t number, uint32_t index) {
+    Call before = call;
+    MzDrawn drawn = draw_in_bands(&call, step);
+    check_refusal(&before, &call, drawn, number, index);
+}
+
+/* At once, in one band, and, where no band's room decides, row by row. */
+static void expect_refusal(Call call, uint32_t number, uint32_t index) {
+    Call before = call;
+    MzDrawn drawn = draw(&call);
+    check_refusal(&before, &call, drawn, number, index);
+    expect_refusal_in_bands(before, SIZE_MAX, number, index);
+    if (number != MZ_ROOM) {
+        expect_refusal_in_bands(before, 1, number, index);
     }
 }
 
@@ -178,6 +205,47 @@ static void k1_band_upward(void) {
     check(drawn.number == MZ_ACCEPTED && drawn.cells == 2, "K1 in a band: answer");
     check(masked(&call, bytes, LENGTH(bytes)), "K1 in a band: mask");
     check(wiped(&call), "K1 in a band: words");
+}
+
+/* K1 and K1's last two rows, in bands of every height, down and upward: as drawn at once. */
+static void k1_in_bands(void) {
+    static const size_t steps[] = {0, 1, 2, 3, SIZE_MAX};
+    List list = rectangle();
+    for (size_t at = 0; at < 4 * LENGTH(steps); at += 1) {
+        Call call = call_of(&list, 4, 3);
+        call.up = at % 2 == 1;
+        call.first = at / 2 % 2;
+        Call at_once = call;
+        MzDrawn whole = draw(&at_once);
+        MzDrawn drawn = draw_in_bands(&call, steps[at / 4]);
+        check(drawn.number == MZ_ACCEPTED && drawn.index == 0, "K1 in bands: number and index");
+        check(drawn.records == 5 && drawn.cells == whole.cells, "K1 in bands: records and cells");
+        check(memcmp(call.mask, at_once.mask, sizeof call.mask) == 0, "K1 in bands: mask");
+        check(wiped(&call), "K1 in bands: words");
+    }
+}
+
+/*
+ * Three full rows, a place in each, with a pool of one place: too little at once and in bands of
+ * two, enough row by row. With a second place in the last row it is too little there as well, and
+ * the rows before leave no trace.
+ */
+static void bands_need_less_room(void) {
+    static const uint8_t full[12] = {255, 255, 255, 255, 255, 255, 255, 255, 255, 255, 255, 255};
+    List list = rectangle_of(0, 0, 4, 3);
+    Call call = call_of(&list, 4, 3);
+    call.words_len = MZ_WORKSPACE_WORDS(3, 1);
+    expect_refusal(call, MZ_ROOM, 0);
+    expect_refusal_in_bands(call, 2, MZ_ROOM, 0);
+    Call row_by_row = call;
+    MzDrawn drawn = draw_in_bands(&row_by_row, 1);
+    check(drawn.number == MZ_ACCEPTED && drawn.records == 5, "less room: number and records");
+    check(drawn.cells == 3, "less room: cells");
+    check(masked(&row_by_row, full, LENGTH(full)), "less room: mask");
+    check(wiped(&row_by_row), "less room: words");
+    move_to(&list, 2, 2);
+    call.list_len = list.len;
+    expect_refusal_in_bands(call, 1, MZ_ROOM, 0);
 }
 
 static void k8_lone_move(void) {
@@ -291,6 +359,8 @@ static void records_are_refused(void) {
 int main(void) {
     k1_rectangle();
     k1_band_upward();
+    k1_in_bands();
+    bands_need_less_room();
     k8_lone_move();
     k11_placement();
     k12_empty_list();

@@ -4,12 +4,14 @@ mod limits;
 mod old;
 mod shown;
 mod simpler;
+mod way;
 mod wild;
 
-pub use limits::{at_the_cap, at_the_limits, with_just_room};
+pub use limits::{at_the_cap, at_the_limits, in_bands_at_the_cap, with_just_room};
 pub use old::soil;
 pub use shown::floats_shown;
 pub use simpler::simpler_floats;
+pub use way::{any_step, with_room_for_bands, Way};
 pub use wild::wild;
 
 use crate::list;

@@ -1,6 +1,8 @@
 //! What a call must answer and leave behind: refusals by the reading, everything else by zeno.
 
-use crate::drawing::Drawing;
+use std::ops::Range;
+
+use crate::drawing::{Drawing, Way};
 use crate::oracle::{self, Bounds, CellAt, Command, Label, Origin, Placement, Transform, Vector};
 use crate::reading::{self, Refusal};
 
@@ -47,18 +49,33 @@ pub struct Drawn {
     pub cells: Vec<CellAt>,
 }
 
-/// Draws a call, all refusals judged. A band is cut from zeno's whole label.
+/// Draws a call at once, all refusals judged.
 pub fn drawn(drawing: &Drawing) -> Result<Drawn, Refusal> {
+    drawn_in(drawing, Way::AtOnce)
+}
+
+/// Draws a call, all refusals judged, 13 for each band of its way. A call's rows are cut from zeno's
+/// whole label.
+pub fn drawn_in(drawing: &Drawing, way: Way) -> Result<Drawn, Refusal> {
     let path = reading::judge(drawing)?;
     let label = label_of(drawing, &path, false, drawing.width);
     let (whole, cells) = oracle::painted_cells(&label).expect("an accepted label is within reach");
     let cells = cells_of_band(cells, drawing.first, drawing.end);
-    reading::judge_room(cells.len(), drawing.words.len(), drawing.rows())?;
+    for band in way.bands(drawing.rows()) {
+        let rows = band.len();
+        reading::judge_room(places_in(&cells, band), drawing.words.len(), rows)?;
+    }
     Ok(Drawn {
         whole,
         records: path.len(),
         cells,
     })
+}
+
+/// How many of the cells, rows rising, lie in these rows.
+pub fn places_in(cells: &[CellAt], rows: Range<usize>) -> usize {
+    let before = |row: usize| cells.partition_point(|cell| (cell.row as usize) < row);
+    before(rows.end) - before(rows.start)
 }
 
 fn cells_of_band(cells: Vec<CellAt>, first: usize, end: usize) -> Vec<CellAt> {
@@ -77,8 +94,13 @@ fn cells_of_band(cells: Vec<CellAt>, first: usize, end: usize) -> Vec<CellAt> {
 /// The outcome of a call: "path row y stands at y − first from the top, or from the bottom when up".
 /// "All but 13 leave the workspace unchanged too. After 0 or 13 all its words are zero."
 pub fn outcome(drawing: &Drawing) -> Outcome {
+    outcome_in(drawing, Way::AtOnce)
+}
+
+/// The outcome of a call that is drawn this way.
+pub fn outcome_in(drawing: &Drawing, way: Way) -> Outcome {
     let wiped = || vec![0; drawing.words.len()];
-    match drawn(drawing) {
+    match drawn_in(drawing, way) {
         Ok(drawn) => Outcome {
             number: 0,
             index: 0,

@@ -3,7 +3,7 @@
 
 mod label;
 
-pub use label::{bounds, draw, placement, test_cells, Answer, Drawn};
+pub use label::{bounds, draw, draw_in_bands, placement, test_cells, Answer, Drawn};
 
 use compare::oracle::{Bounds, Origin, Placement, Point, Transform};
 

@@ -1,5 +1,7 @@
-//! Stored answers of zeno, and of the reading where it refuses, for a program in another language to
-//! replay; `compare fixture OUT` writes them. All numbers are little-endian; floats are IEEE 754 binary32 by their bits.
+//! Stored answers for a program in another language to replay; `compare fixture OUT` writes them.
+//! Where the number is 0 they are zeno's. Zeno refuses nothing: every other number is the reading's,
+//! which for 13 counts zeno's cells. All numbers are little-endian; floats are IEEE 754 binary32 by
+//! their bits.
 //!
 //! | field | bytes | what it is |
 //! |---|---|---|

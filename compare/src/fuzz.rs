@@ -7,10 +7,10 @@
 use std::time::{Duration, Instant};
 
 use crate::face;
-use crate::kinds::calls::{agree_on_answers, answer_of, drawn, keeps, Called};
+use crate::kinds::calls::{agree_on_answers, agree_on_masks, answer_of, drawn_in, keeps, Called};
 use crate::kinds::SEEKING;
 use crate::runs::Stopped;
-use compare::drawing::{soil, wild, Drawing};
+use compare::drawing::{any_step, soil, wild, Drawing, Way};
 use compare::flags::Flags;
 use compare::lent::{Around, Lent, BYTE_MARK};
 use compare::numbers::Dice;
@@ -28,6 +28,7 @@ const ROUNDS: usize = 16;
 #[derive(Default)]
 struct Counts {
     draw: [u64; 14],
+    in_bands: [u64; 14],
     bounds: [u64; 14],
     placement: [u64; 14],
 }
@@ -45,6 +46,7 @@ pub fn fuzz(words: &[String]) -> Result<(), Stopped> {
         }
     }
     println!("drawings, each drawn twice: {}", told(&counts.draw));
+    println!("in bands, each drawn twice: {}", told(&counts.in_bands));
     println!("bounds: {}", told(&counts.bounds));
     println!("placements: {}", told(&counts.placement));
     println!("nothing was touched that may not be, seed {seed}, {seconds} s");
@@ -64,9 +66,13 @@ fn one_round(dice: &mut Dice, counts: &mut Counts) -> Result<(), String> {
     let around = dice.pick(&[Around::Marks, Around::Nothing]);
     let drawing = wild(dice);
     let seed = dice.roll();
-    match draw_twice(&drawing, around, seed) {
-        Ok(number) => counts.draw[number] += 1,
-        Err(_) => return Err(smaller(drawing, around, seed)),
+    let step = any_step(drawing.height, dice);
+    match draw_both_ways(&drawing, step, around, seed) {
+        Ok((at_once, in_bands)) => {
+            counts.draw[at_once] += 1;
+            counts.in_bands[in_bands] += 1;
+        }
+        Err(_) => return Err(smaller(drawing, step, around, seed)),
     }
     for placing in [placing_of(&drawing, dice), any_placing(dice)] {
         let with_case = |what: String| format!("DIFFERENT: fuzz\n{}{what}", placing.shown());
@@ -77,12 +83,14 @@ fn one_round(dice: &mut Dice, counts: &mut Counts) -> Result<(), String> {
 }
 
 /// What is wrong with a drawing, in the smallest form that is found.
-fn smaller(drawing: Drawing, around: Around, seed: u64) -> String {
+fn smaller(drawing: Drawing, step: usize, around: Around, seed: u64) -> String {
     let start = Instant::now();
-    let wrong = |d: &Drawing| start.elapsed() < SEEKING && draw_twice(d, around, seed).is_err();
+    let drawn = |d: &Drawing| draw_both_ways(d, step, around, seed);
+    let wrong = |d: &Drawing| start.elapsed() < SEEKING && drawn(d).is_err();
     let least = smallest(drawing, Drawing::simpler, wrong);
-    let what = draw_twice(&least, around, seed).expect_err("the smallest form is wrong");
-    format!("DIFFERENT: fuzz, smallest form:\n{}{what}", least.shown())
+    let what = drawn(&least).expect_err("the smallest form is wrong");
+    let least = least.shown();
+    format!("DIFFERENT: fuzz, smallest form:\n{least}  bands of {step}\n{what}")
 }
 
 fn placing_of(drawing: &Drawing, dice: &mut Dice) -> Placing {
@@ -94,12 +102,30 @@ fn placing_of(drawing: &Drawing, dice: &mut Dice) -> Placing {
     }
 }
 
+/// Draws at once and in bands: what is accepted at once is the same in bands. Answers both numbers.
+fn draw_both_ways(
+    drawing: &Drawing,
+    step: usize,
+    around: Around,
+    seed: u64,
+) -> Result<(usize, usize), String> {
+    let at_once = draw_twice(drawing, Way::AtOnce, around, seed)?;
+    let told = |what: String| format!("in bands: {what}");
+    let in_bands = draw_twice(drawing, Way::InBands(step), around, seed).map_err(told)?;
+    if at_once.answer.number != 13 {
+        agree_on_answers(&in_bands.answer, &at_once.answer).map_err(told)?;
+        agree_on_masks(drawing.pitch, in_bands.mask.part(), at_once.mask.part()).map_err(told)?;
+    }
+    let number = |called: Called| called.answer.number as usize;
+    Ok((number(at_once), number(in_bands)))
+}
+
 /// Draws, and draws again over other old bytes and words: the answer and the painted bytes stay.
-fn draw_twice(drawing: &Drawing, around: Around, seed: u64) -> Result<usize, String> {
-    let once = draw(drawing, around)?;
+fn draw_twice(drawing: &Drawing, way: Way, around: Around, seed: u64) -> Result<Called, String> {
+    let once = draw(drawing, way, around)?;
     let mut other = drawing.clone();
     soil(&mut other, &mut Dice::new(seed));
-    let again = draw(&other, around)?;
+    let again = draw(&other, way, around)?;
     agree_on_answers(&again.answer, &once.answer)?;
     let painted = painted(drawing, once.answer.number == 0);
     let (once_mask, again_mask) = (once.mask.part(), again.mask.part());
@@ -108,13 +134,13 @@ fn draw_twice(drawing: &Drawing, around: Around, seed: u64) -> Result<usize, Str
             return Err(format!("mask byte {at} shows what was there before"));
         }
     }
-    Ok(once.answer.number as usize)
+    Ok(once)
 }
 
 /// Draws and judges what is left: numbers up to 12 by the reading, everything else by the rules for
 /// what a call leaves.
-fn draw(drawing: &Drawing, around: Around) -> Result<Called, String> {
-    let called = drawn(drawing, around)?;
+fn draw(drawing: &Drawing, way: Way, around: Around) -> Result<Called, String> {
+    let called = drawn_in(drawing, way, around)?;
     let answer = called.answer;
     match reading::judge(drawing) {
         Err(Refusal { number, index }) => {
@@ -124,12 +150,21 @@ fn draw(drawing: &Drawing, around: Around) -> Result<Called, String> {
         Ok(path) => {
             let cells = answer.cells as usize;
             agree_on_answers(&answer, &answer_of(0, 0, path.len(), cells))?;
-            reading::judge_room(cells, drawing.words.len(), drawing.rows())
-                .map_err(|_| format!("{cells} cells are more than the pool holds"))?;
+            if cells > room(drawing, way) {
+                return Err(format!("{cells} cells are more than the pools hold"));
+            }
         }
     }
     judge_loans(drawing, &called)?;
     Ok(called)
+}
+
+/// How many places the pools of all bands hold together.
+fn room(drawing: &Drawing, way: Way) -> usize {
+    let pools = way.bands(drawing.rows());
+    pools
+        .map(|band| reading::pool(drawing.words.len(), band.len()))
+        .sum()
 }
 
 fn judge_loans(drawing: &Drawing, called: &Called) -> Result<(), String> {

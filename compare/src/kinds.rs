@@ -6,6 +6,7 @@ pub mod boxes;
 pub mod calls;
 pub mod cells;
 pub mod drawings;
+pub mod in_bands;
 pub mod lists;
 pub mod maps;
 pub mod placements;

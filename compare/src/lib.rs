@@ -8,7 +8,7 @@
 //! | `numbers` | the dice, and numbers of every character |
 //! | `list` | path lists: written as bytes, told in words, made simpler |
 //! | `paths` | paths of every character, exhaustive small ones, text, large ones, damaged lists |
-//! | `drawing` | one call of a drawing; calls drawn from the dice, at boundaries, at limits, wild ones |
+//! | `drawing` | one call of a drawing; calls drawn from the dice, at boundaries, at limits, in bands, wild ones |
 //! | `placing` | one call of bounds or of a placement, and such calls drawn from the dice |
 //! | `boundaries` | every boundary and refusal of document 01 as a table written by hand |
 //! | `reading` | document 01's refusals, boxes, placements and pixels, read independently |

@@ -11,9 +11,9 @@
 //! group or words of a kind's name. It prints how many cases of which kind were compared, and stops
 //! with status 1 at the first difference, which it tells in the smallest form that it finds.
 //!
-//! `bench` times both sides, `fixture` writes zeno's answers for another program to replay, `fuzz`
-//! throws damaged and random calls at the port with marks around all that it lends, `cells` prints
-//! zeno's cells of the worked examples in the rules.
+//! `bench` times both sides, `fixture` writes answers for another program to replay, zeno's and, for
+//! refusals, the reading's, `fuzz` throws damaged and random calls at the port with marks around all
+//! that it lends, `cells` prints zeno's cells of the worked examples in the rules.
 
 mod bench;
 mod face;

@@ -1,6 +1,7 @@
 //! Paths of every character: small ones exhaustively, others drawn from the dice around a label of a
 //! given size, and lists damaged in one place.
 
+mod cancelling;
 mod damaged;
 mod large;
 mod small;
@@ -38,12 +39,14 @@ pub enum Character {
     AfterClose,
     /// Several subpaths, open, closed and of one point.
     Subpaths,
+    /// Figures drawn there and back, or twice, so that sums cancel.
+    Cancelling,
     /// Any commands on a grid of any fineness.
     Anything,
 }
 
 impl Character {
-    pub const ALL: [Character; 13] = [
+    pub const ALL: [Character; 14] = [
         Character::Edges,
         Character::Corners,
         Character::Diagonals,
@@ -56,6 +59,7 @@ impl Character {
         Character::HugeCurves,
         Character::AfterClose,
         Character::Subpaths,
+        Character::Cancelling,
         Character::Anything,
     ];
 
@@ -73,6 +77,7 @@ impl Character {
             Character::HugeCurves => "huge curves",
             Character::AfterClose => "drawing after Close",
             Character::Subpaths => "subpaths",
+            Character::Cancelling => "figures that cancel",
             Character::Anything => "anything",
         }
     }
@@ -90,6 +95,7 @@ impl Character {
             Character::DegenerateCurves => degenerate(&field, dice),
             Character::AfterClose => subpaths(self, &field, dice, true),
             Character::Subpaths => subpaths(self, &field, dice, false),
+            Character::Cancelling => cancelling::cancelling(&field, dice),
             _ => {
                 let curves = if self == Character::HugeCurves { 3 } else { 1 };
                 let mut path = open_figure(curves, dice, |dice| field.point(self, dice));

@@ -3,13 +3,17 @@
 use std::time::Instant;
 
 use crate::kinds::{bands::Bands, boxes::Boxes, lists::Lists, maps, placements::Placements};
-use crate::kinds::{cells, drawings, run, Kind};
+use crate::kinds::{cells, drawings, in_bands, run, Kind};
 use compare::boundaries;
-use compare::drawing::{at_a_boundary, at_the_cap, at_the_limits, ordinary, with_just_room};
+use compare::drawing::{
+    at_a_boundary, at_the_cap, at_the_limits, in_bands_at_the_cap, ordinary, with_just_room,
+    with_room_for_bands,
+};
 use compare::flags::Flags;
 use compare::oracle::Origin;
 use compare::paths::Character;
 use drawings::{Boundaries, Drawings, SmallDrawings};
+use in_bands::InBands;
 
 pub const USAGE: &str = "compare [--seed S] [--scale N] [--only KIND]";
 
@@ -178,5 +182,26 @@ fn refusals(run: &mut Run) -> Result<(), String> {
 }
 
 fn bands(run: &mut Run) -> Result<(), String> {
-    run.scaled(&Bands, 120_000)
+    run.scaled(&Bands, 120_000)?;
+    let kinds = [
+        (
+            "labels drawn in bands by one call, with just room or just not",
+            with_room_for_bands as fn(&mut _) -> _,
+            120_000,
+        ),
+        (
+            "labels drawn in bands by one call, beside a boundary",
+            in_bands::beside_a_boundary,
+            60_000,
+        ),
+        (
+            "labels drawn in bands by one call, about the cap of 16,384 places",
+            in_bands_at_the_cap,
+            200,
+        ),
+    ];
+    for (name, make, count) in kinds {
+        run.scaled(&InBands { name, make }, count)?;
+    }
+    Ok(())
 }

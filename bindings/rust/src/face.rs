@@ -67,6 +67,26 @@ extern "C" {
         words_len: usize,
     ) -> MzDrawn;
 
+    fn mz_draw_in_bands(
+        list: *const u8,
+        list_len: usize,
+        transform: Transform,
+        offset_x: f32,
+        offset_y: f32,
+        even_odd: bool,
+        up: bool,
+        width: usize,
+        height: usize,
+        pitch: usize,
+        first: usize,
+        end: usize,
+        step: usize,
+        mask: *mut u8,
+        mask_len: usize,
+        words: *mut u32,
+        words_len: usize,
+    ) -> MzDrawn;
+
     fn mz_bounds(list: *const u8, list_len: usize, transform: Transform) -> MzBounds;
 
     fn mz_placement(
@@ -107,11 +127,40 @@ pub fn draw(
             words.len(),
         )
     };
-    accepted(drawn.number, drawn.index)?;
-    Ok(Drawn {
-        records: drawn.records,
-        cells: drawn.cells,
-    })
+    counts(drawn)
+}
+
+pub fn draw_in_bands(
+    list: &[u8],
+    label: &Label,
+    band: Range<usize>,
+    step: usize,
+    mask: &mut [u8],
+    words: &mut [u32],
+) -> Result<Drawn, Refusal> {
+    // SAFETY: as for `draw`.
+    let drawn = unsafe {
+        mz_draw_in_bands(
+            list.as_ptr(),
+            list.len(),
+            label.transform,
+            label.offset.x,
+            label.offset.y,
+            label.fill == Fill::EvenOdd,
+            label.origin == Origin::BottomLeft,
+            label.width,
+            label.height,
+            label.pitch,
+            band.start,
+            band.end,
+            step,
+            mask.as_mut_ptr(),
+            mask.len(),
+            words.as_mut_ptr(),
+            words.len(),
+        )
+    };
+    counts(drawn)
 }
 
 pub fn bounds(list: &[u8], transform: Transform) -> Result<Bounds, Refusal> {
@@ -148,6 +197,14 @@ pub fn placement(
         top: placed.top,
         width: placed.width,
         height: placed.height,
+    })
+}
+
+fn counts(drawn: MzDrawn) -> Result<Drawn, Refusal> {
+    accepted(drawn.number, drawn.index)?;
+    Ok(Drawn {
+        records: drawn.records,
+        cells: drawn.cells,
     })
 }
 

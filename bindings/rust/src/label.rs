@@ -120,7 +120,7 @@ pub const fn workspace_words(rows: usize, cells: usize) -> Option<usize> {
 /// Draws a whole label into a mask of its own.
 ///
 /// Refuses with 1, 3, 6 to 12, and with 13 where the label stores more than [`MOST_CELLS`] places;
-/// such a label can be drawn in bands. Nothing is allocated for a label that is too large.
+/// such a label can be drawn in bands ([`draw_in_bands`]). Nothing is allocated for a label that is too large.
 ///
 /// ```
 /// use mosszephyr::{draw, Label, Path, Refusal};
@@ -174,6 +174,40 @@ pub fn draw_band(
     words: &mut [u32],
 ) -> Result<Drawn, Refusal> {
     face::draw(path.as_bytes(), label, band, mask, words)
+}
+
+/// Draws the rows `band` of a label as [`draw_band`] does, in bands of `step` rows from its first on,
+/// the last with what is left; a step of 0 counts as 1. A workspace with too little room for all
+/// rows can have enough for each band, which has all words but one for each of its own rows.
+///
+/// Mask and words are lent for all rows, as to [`draw_band`], and left as by it. Refuses with 1 to
+/// 12 as it does, and with 13 where one of the bands stores more places than it has room for; the
+/// mask is then as it was. What [`draw_band`] accepts gives the same here, with any step. The path
+/// is read anew for each band, so few rows cost time.
+///
+/// ```
+/// use mosszephyr::{draw_band, draw_in_bands, workspace_words, Drawn, Label, Path, Refusal};
+///
+/// let mut path = Path::new();
+/// path.move_to((1.0, 0.0)).line_to((3.0, 0.0)).line_to((3.0, 3.0)).line_to((1.0, 3.0));
+/// let label = Label::new(4, 3);
+/// let (mut mask, mut words) = ([7; 12], vec![0; workspace_words(3, 2).unwrap()]);
+/// let refusal = draw_band(&path, &label, 0..3, &mut mask, &mut words).unwrap_err();
+/// assert_eq!((refusal.number(), mask), (Refusal::ROOM, [7; 12]));
+/// let drawn = draw_in_bands(&path, &label, 0..3, 1, &mut mask, &mut words)?;
+/// assert_eq!(drawn, Drawn { records: 4, cells: 6 });
+/// assert_eq!(mask, [0, 255, 255, 0, 0, 255, 255, 0, 0, 255, 255, 0]);
+/// # Ok::<(), Refusal>(())
+/// ```
+pub fn draw_in_bands(
+    path: &Path,
+    label: &Label,
+    band: Range<usize>,
+    step: usize,
+    mask: &mut [u8],
+    words: &mut [u32],
+) -> Result<Drawn, Refusal> {
+    face::draw_in_bands(path.as_bytes(), label, band, step, mask, words)
 }
 
 /// Refusals 1, 3 and 6, asked of the library with an empty path and no rows, for which it is lent

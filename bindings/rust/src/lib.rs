@@ -2,7 +2,8 @@
 //!
 //! A [`Path`] is a list of records, as bytes. A [`Label`] says how it is drawn. [`draw`] draws a
 //! whole label into a mask of its own; [`draw_band`] draws some of its rows into lent memory and
-//! allocates nothing; [`bounds`] and [`placement`] say where a path lies.
+//! allocates nothing, [`draw_in_bands`] does so a few rows at a time, with less room; [`bounds`] and
+//! [`placement`] say where a path lies.
 //!
 //! ```
 //! use mosszephyr::{draw, Label, Path};
@@ -37,7 +38,8 @@ mod refusal;
 
 pub use geometry::{bounds, placement, Bounds, Origin, Placement, Point, Transform};
 pub use label::{
-    draw, draw_band, mask_bytes, workspace_words, Drawn, Fill, Label, Picture, MOST_CELLS,
+    draw, draw_band, draw_in_bands, mask_bytes, workspace_words, Drawn, Fill, Label, Picture,
+    MOST_CELLS,
 };
 pub use path::Path;
 pub use refusal::Refusal;

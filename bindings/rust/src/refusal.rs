@@ -25,9 +25,9 @@ use std::fmt;
 /// cut toward zero, lie from −524,288 to 524,288. 2048.0 passes, 2048.00390625 does not.
 ///
 /// 1 to 7 are judged in this order; then the records, front to back, the first faulty one deciding;
-/// 13 comes last. [`draw_band`](crate::draw_band) judges all of them, [`draw`](crate::draw) lends
-/// what 2, 4 and 5 ask for, [`bounds`](crate::bounds) and [`placement`](crate::placement) judge 6
-/// to 12.
+/// 13 comes last. [`draw_band`](crate::draw_band) and [`draw_in_bands`](crate::draw_in_bands) judge
+/// all of them, the latter 13 for each of its bands; [`draw`](crate::draw) lends what 2, 4 and 5 ask
+/// for; [`bounds`](crate::bounds) and [`placement`](crate::placement) judge 6 to 12.
 ///
 /// ```
 /// use mosszephyr::{draw, Label, Path, Refusal};

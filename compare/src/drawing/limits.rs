@@ -103,32 +103,57 @@ pub fn with_just_room(dice: &mut Dice) -> Drawing {
     drawing
 }
 
-/// A call with about 16,384 places and a workspace for more: tall bars, each two places a row, and at
-/// times a last MoveTo that takes one place more.
+/// The most places that a pool holds.
+const CAP: usize = 16_384;
+
+/// A call with about 16,384 places and a workspace for more.
 pub fn at_the_cap(dice: &mut Dice) -> Drawing {
+    let mut drawing = tall_bars(4, dice);
+    let rows = drawing.rows();
+    lend_the_cap(&mut drawing, rows, dice);
+    soil(&mut drawing, dice);
+    drawing
+}
+
+/// A call with about 32,768 places and a step by which a band has about half of them, or less.
+pub fn in_bands_at_the_cap(dice: &mut Dice) -> (Drawing, usize) {
+    let mut drawing = tall_bars(8, dice);
+    let step = dice.pick(&[512, 1023, 1024, 1024, 1025]);
+    lend_the_cap(&mut drawing, step, dice);
+    soil(&mut drawing, dice);
+    (drawing, step)
+}
+
+/// Bars as tall as may be, each two places a row, and at times a last MoveTo that takes one place
+/// more.
+fn tall_bars(count: usize, dice: &mut Dice) -> Drawing {
     const TALL: usize = 2048;
     let mut path = Vec::new();
-    for bar in 0..4 {
+    for bar in 0..count {
         let left = 8.0 * bar as f32 + dice.pick(&[0.0, 0.5, 2.25]);
-        let lower = if bar == 3 {
+        let lower = if bar == count - 1 {
             dice.pick(&[0, 0, 0, 1])
         } else {
             0
         };
         path.extend(bar_of(left, left + 4.0, (TALL - lower) as f32));
     }
+    let width = 8 * count;
     if dice.one_in(2) {
         let row = dice.below(TALL) as f32;
-        path.push(Command::MoveTo(Point::new(31.0, row)));
+        path.push(Command::MoveTo(Point::new((width - 1) as f32, row)));
     }
-    let mut drawing = Drawing::plain(&path, 32, TALL);
+    let mut drawing = Drawing::plain(&path, width, TALL);
     if dice.one_in(8) {
         drawing.first = 1;
     }
-    let words = drawing.rows() + 4 * 16_384 + dice.pick(&[0, 0, 4, 40]);
-    drawing.words = super::old::words(words - dice.pick(&[0, 0, 0, 1]));
-    soil(&mut drawing, dice);
     drawing
+}
+
+/// Words for so many rows and as many places as a pool holds, a word less, or more.
+fn lend_the_cap(drawing: &mut Drawing, rows: usize, dice: &mut Dice) {
+    let words = rows + 4 * CAP + dice.pick(&[0, 0, 4, 40]);
+    drawing.words = super::old::words(words - dice.pick(&[0, 0, 0, 1]));
 }
 
 /// A rectangle from row 0 down.
@@ -145,6 +170,7 @@ fn bar_of(left: f32, right: f32, bottom: f32) -> [Command; 5] {
 #[cfg(test)]
 mod tests {
     use super::*;
+    use crate::drawing::Way;
     use std::collections::HashMap;
 
     fn numbers_of(make: fn(&mut Dice) -> Drawing, count: usize) -> HashMap<u8, usize> {
@@ -174,6 +200,20 @@ mod tests {
             let seen = numbers_of(make, count);
             assert!(seen[&0] > count / 8 && seen[&13] > count / 8, "{seen:?}");
         }
+    }
+
+    /// In bands as well, where at once there is never room.
+    #[test]
+    fn bands_have_just_room_too() {
+        let mut dice = Dice::new(24);
+        let mut accepted = 0;
+        for _ in 0..40 {
+            let (drawing, step) = in_bands_at_the_cap(&mut dice);
+            assert_eq!(driver::outcome(&drawing).number, 13);
+            let in_bands = driver::outcome_in(&drawing, Way::InBands(step));
+            accepted += usize::from(in_bands.number == 0);
+        }
+        assert!((5..35).contains(&accepted), "{accepted}");
     }
 
     /// The cap is met exactly: 16,384 places are drawn.

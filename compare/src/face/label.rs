@@ -59,6 +59,25 @@ extern "C" {
         words: *mut u32,
         words_len: usize,
     ) -> Drawn;
+    fn mz_draw_in_bands(
+        list: *const u8,
+        list_len: usize,
+        transform: MzTransform,
+        offset_x: f32,
+        offset_y: f32,
+        even_odd: bool,
+        up: bool,
+        width: usize,
+        height: usize,
+        pitch: usize,
+        first: usize,
+        end: usize,
+        step: usize,
+        mask: *mut u8,
+        mask_len: usize,
+        words: *mut u32,
+        words_len: usize,
+    ) -> Drawn;
     fn mz_test_cells(
         list: *const u8,
         list_len: usize,
@@ -107,6 +126,38 @@ pub fn draw(call: &Drawing, list: &[u8], mask: &mut [u8], words: &mut [u32]) -> 
             call.pitch,
             call.first,
             call.end,
+            mask.as_mut_ptr(),
+            mask.len(),
+            words.as_mut_ptr(),
+            words.len(),
+        )
+    }
+}
+
+/// The same in bands of `step` rows.
+pub fn draw_in_bands(
+    call: &Drawing,
+    step: usize,
+    list: &[u8],
+    mask: &mut [u8],
+    words: &mut [u32],
+) -> Drawn {
+    // SAFETY: as for `draw`.
+    unsafe {
+        mz_draw_in_bands(
+            list.as_ptr(),
+            list.len(),
+            call.transform.into(),
+            call.offset.x,
+            call.offset.y,
+            call.fill == Fill::EvenOdd,
+            call.up,
+            call.width,
+            call.height,
+            call.pitch,
+            call.first,
+            call.end,
+            step,
             mask.as_mut_ptr(),
             mask.len(),
             words.as_mut_ptr(),

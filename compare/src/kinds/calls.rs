@@ -2,7 +2,7 @@
 //! answers and leaves.
 
 use crate::face::{self, Drawn};
-use compare::drawing::Drawing;
+use compare::drawing::{Drawing, Way};
 use compare::driver::Outcome;
 use compare::lent::{Around, Lent, BYTE_MARK, WORD_MARK};
 
@@ -31,12 +31,21 @@ pub struct Called {
     pub words: Lent<u32>,
 }
 
-/// Draws; an error where the port touched what it may not.
+/// Draws at once; an error where the port touched what it may not.
 pub fn drawn(drawing: &Drawing, around: Around) -> Result<Called, String> {
+    drawn_in(drawing, Way::AtOnce, around)
+}
+
+/// The same, drawn this way.
+pub fn drawn_in(drawing: &Drawing, way: Way, around: Around) -> Result<Called, String> {
     let list = Lent::new(&drawing.list, BYTE_MARK, around);
     let mut mask = Lent::new(&drawing.mask, BYTE_MARK, around);
     let mut words = Lent::new(&drawing.words, WORD_MARK, around);
-    let answer = face::draw(drawing, list.part(), mask.part_mut(), words.part_mut());
+    let (bytes, m, w) = (list.part(), mask.part_mut(), words.part_mut());
+    let answer = match way {
+        Way::AtOnce => face::draw(drawing, bytes, m, w),
+        Way::InBands(step) => face::draw_in_bands(drawing, step, bytes, m, w),
+    };
     keeps(&list, "the list")?;
     keeps(&mask, "the mask")?;
     keeps(&words, "the workspace")?;

@@ -2,7 +2,7 @@
 //! way.
 
 use crate::numbers::Dice;
-use crate::oracle::{Command, Point};
+use crate::oracle::{Command, Point, Transform};
 
 /// Width and height of the label that an address fits.
 pub const ADDRESS: (usize, usize) = (400, 120);
@@ -47,6 +47,16 @@ pub fn address(dice: &mut Dice) -> Vec<Command> {
         }
     }
     path
+}
+
+/// One letter in the upper left corner, so high.
+pub fn glyph(height: f32, dice: &mut Dice) -> Vec<Command> {
+    let mut path = Vec::new();
+    letter(dice.pick(&LETTERS), 0.0, 0.0, &mut path);
+    let scale = Transform::scale(height / 20.0, height / 20.0);
+    path.iter()
+        .map(|command| command.transform(&scale))
+        .collect()
 }
 
 fn hair(dice: &mut Dice) -> f32 {

@@ -1,2 +1,3 @@
 mod Pairs
 mod Drawings
+mod OneOutcome

@@ -3,7 +3,6 @@ use Prim.Native.Nat.{ℕ}
 use mathlib.Core.Path.{_≡_}
 use mathlib.Core.Bool.{Bool, true, false}
 use mathlib.Core.List.{List}
-use lib.ListN.{length}
 use lib.Ieee.{Float}
 use Rattle.geometry.specs.Affine.{pointOf}
 use Rattle.sweep.specs.declared.Fill.{Fill}
@@ -11,7 +10,7 @@ use Rattle.sweep.specs.declared.Fill.the-variants.{NonZero, EvenOdd}
 use Rattle.label.specs.declared.Label.{Label}
 use Rattle.label.specs.declared.Answer.{Answer}
 use Rattle.label.specs.declared.Numbers.{Numbers}
-use Rattle.label.specs.Draw.{numbersOf, Outcome, drawOf}
+use Rattle.label.specs.Draw.{numbersOf, Outcome}
 use Rattle.label.specs.Inking as inking
 use Rattle.mosszephyr.specs.declared.MzTransform.{MzTransform}
 use Rattle.mosszephyr.specs.Tests.{outOfC}
@@ -33,11 +32,11 @@ labelOf t x y evenOdd up width height pitch first end = record {
   end = end;
 }
 
--- the answer in the paper's numbers, the mask and the words after it are the rule's
-pub record Drawn (l : Label) (s mask words mask′ words′ : List ℕ) (r : Numbers) : Type 0 where
-  pub answer : r ≡ numbersOf (drawOf l s mask words .answer)
-  pub mask-after : mask′ ≡ drawOf l s mask words .mask
-  pub words-after : words′ ≡ drawOf l s mask words .words
+-- the answer in the paper's numbers, the mask and the words after it are the outcome's
+pub record Drawn (o : Outcome) (mask words : List ℕ) (r : Numbers) : Type 0 where
+  pub answer : r ≡ numbersOf (o .answer)
+  pub mask-after : mask ≡ o .mask
+  pub words-after : words ≡ o .words
 
 -- the numbers of an answer with its cells in the words (`label::cells`)
 pub record Celled (l : Label) (s words words′ : List ℕ) (r : Numbers) : Type 0 where

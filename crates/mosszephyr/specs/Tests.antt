@@ -1,5 +1,4 @@
 -- How the types of the test functions stand for those of the crates below.
-use Prim.Native.Nat.{ℕ}
 use mathlib.Core.Bool.{Bool, true, false}
 use mathlib.Core.List.{List, [], _∷_}
 use lib.IntN.{pos}

@@ -1,4 +1,4 @@
-// The C face (bindings/mosszephyr.h): mz_draw, mz_bounds and mz_placement. Each function is thin: it hands its numbers to a
+// The C face (bindings/mosszephyr.h): mz_draw, mz_draw_in_bands, mz_bounds and mz_placement. Each function is thin: it hands its numbers to a
 // crate below, whose promise is its own. The functions named mz_test_ serve the runs against the Rust and nothing else.
 use geometry::Bounds;
 use geometry::Origin;
@@ -16,7 +16,8 @@ ghost use mathlib.Core.Bool.{false};
 ghost use Rattle.geometry.specs.Affine.{pointOf, identityOf, scaleOf, translationOf, combineOf, translatedOf, moved, movedVector};
 ghost use Rattle.geometry.specs.Box.{boxOf};
 ghost use Rattle.geometry.specs.Placing.{placedOf};
-ghost use Rattle.label.specs.Draw.{numbersOf};
+ghost use Rattle.label.specs.Draw.{numbersOf, drawOf};
+ghost use Rattle.bands.specs.InBands.{drawInBandsOf};
 ghost use Rattle.placing.specs.Placing.{boundsOf, laidOf};
 ghost use Rattle.placing.specs.Numbers.{boxNumbersOf, placeNumbersOf};
 ghost use Rattle.mosszephyr.specs.Face.{fillOf, labelOf, Drawn, Celled};
@@ -63,6 +64,33 @@ fn fill_of(even_odd: bool) -> Fill
     Fill::NonZero
 }
 
+fn label_of(
+    transform: MzTransform,
+    offset_x: f32,
+    offset_y: f32,
+    even_odd: bool,
+    up: bool,
+    width: usize,
+    height: usize,
+    pitch: usize,
+    first: usize,
+    end: usize,
+) -> Label
+    ensures { λ r. ⌜ r ≡ labelOf transform «offset_x» «offset_y» «even_odd» up width height pitch first end ⌝ }
+{
+    Label {
+        transform: transform_of(transform),
+        offset: Point::new(offset_x, offset_y),
+        fill: fill_of(even_odd),
+        up,
+        width,
+        height,
+        pitch,
+        first,
+        end,
+    }
+}
+
 // Draws a label's band into the mask.
 #[no_mangle]
 pub extern "C" fn mz_draw(
@@ -80,21 +108,58 @@ pub extern "C" fn mz_draw(
     mask: &mut [u8],
     words: &mut [u32],
 ) -> MzDrawn
-    ensures { λ r. ⌜ Drawn (labelOf transform «offset_x» «offset_y» «even_odd» up width height pitch first end) (now (list .entry))
-        (now (mask .entry)) (now (words .entry)) (now (mask .exit)) (now (words .exit)) r ⌝ }
+    ensures { λ r. ⌜ Drawn (drawOf (labelOf transform «offset_x» «offset_y» «even_odd» up width height pitch first end) (now (list .entry))
+        (now (mask .entry)) (now (words .entry))) (now (mask .exit)) (now (words .exit)) r ⌝ }
 {
-    let label = Label {
-        transform: transform_of(transform),
-        offset: Point::new(offset_x, offset_y),
-        fill: fill_of(even_odd),
+    let label = label_of(
+        transform,
+        offset_x,
+        offset_y,
+        even_odd,
         up,
         width,
         height,
         pitch,
         first,
         end,
-    };
+    );
     label::numbers_of(label::draw(list, label, mask, words))
+}
+
+// Draws the same in bands of `step` rows, with less room.
+#[no_mangle]
+pub extern "C" fn mz_draw_in_bands(
+    list: &[u8],
+    transform: MzTransform,
+    offset_x: f32,
+    offset_y: f32,
+    even_odd: bool,
+    up: bool,
+    width: usize,
+    height: usize,
+    pitch: usize,
+    first: usize,
+    end: usize,
+    step: usize,
+    mask: &mut [u8],
+    words: &mut [u32],
+) -> MzDrawn
+    ensures { λ r. ⌜ Drawn (drawInBandsOf step (labelOf transform «offset_x» «offset_y» «even_odd» up width height pitch first end)
+        (now (list .entry)) (now (mask .entry)) (now (words .entry))) (now (mask .exit)) (now (words .exit)) r ⌝ }
+{
+    let label = label_of(
+        transform,
+        offset_x,
+        offset_y,
+        even_odd,
+        up,
+        width,
+        height,
+        pitch,
+        first,
+        end,
+    );
+    label::numbers_of(bands::draw_in_bands(list, label, step, mask, words))
 }
 
 // The box of a list's transformed points.
@@ -142,17 +207,18 @@ pub extern "C" fn mz_test_cells(
     ensures { λ r. ⌜ Celled (labelOf transform «offset_x» «offset_y» false false width height width first end) (now (list .entry))
         (now (words .entry)) (now (words .exit)) r ⌝ }
 {
-    let label = Label {
-        transform: transform_of(transform),
-        offset: Point::new(offset_x, offset_y),
-        fill: Fill::NonZero,
-        up: false,
+    let label = label_of(
+        transform,
+        offset_x,
+        offset_y,
+        false,
+        false,
         width,
         height,
-        pitch: width,
+        width,
         first,
         end,
-    };
+    );
     label::numbers_of(label::cells(list, label, 0xffff_ffff_ffff_ffff, words))
 }
 

@@ -1,5 +1,6 @@
-// Replays stored answers of the Rust, and of the reading where that refuses: reads the file `answers`, draws and places each of its cases,
-// and writes how many differ.
+// Replays the answers that `compare fixture` stored in the file `answers`, draws and places each of its cases, and writes how many differ.
+// Number 0 and all that goes with it is the Rust's answer. The Rust refuses nothing: every other number is that of compare's own reading of
+// document 01, which for 13 counts the Rust's cells.
 // The file starts with MZREPLAY, then the count of drawings, the drawings, the count of placements, the placements; all numbers are little-endian.
 use geometry::Origin;
 use geometry::Point;
@@ -13,10 +14,11 @@ ghost use mathlib.Core.Path.{_≡_};
 ghost use Prim.Native.Nat.{_^_, _≤_};
 ghost use lib.ListN.{length};
 
-// How many cases were replayed, how many of them differ, and where the next one starts.
+// Where the next case starts, how many of those before it the file says are accepted and how many refused, and how many differ.
 struct Tally {
     at: usize,
-    done: usize,
+    accepted: usize,
+    refused: usize,
     differ: usize,
 }
 
@@ -283,16 +285,24 @@ fn one_unless(same: bool) -> usize {
 
 fn drawings(s: &[u8], from: usize, count: usize, mask: &mut [u8], words: &mut [u32]) -> Tally {
     let mut at = from;
-    let mut done: usize = 0;
+    let mut accepted: usize = 0;
+    let mut refused: usize = 0;
     let mut differ: usize = 0;
     let mut left = count;
     while left > 0 {
         left -= 1;
+        let number = word_at(s, add(list_end(s, at), 58));
+        accepted = add(accepted, one_unless(number != 0));
+        refused = add(refused, one_unless(number == 0));
         differ = add(differ, one_unless(replay_drawing(s, at, mask, words)));
         at = after_drawing(s, at);
-        done = add(done, 1);
     }
-    Tally { at, done, differ }
+    Tally {
+        at,
+        accepted,
+        refused,
+        differ,
+    }
 }
 
 fn widen(n: u32) -> usize {
@@ -367,27 +377,44 @@ fn replay_placement(s: &[u8], at: usize) -> bool {
 
 fn placements(s: &[u8], from: usize, count: usize) -> Tally {
     let mut at = from;
-    let mut done: usize = 0;
+    let mut accepted: usize = 0;
+    let mut refused: usize = 0;
     let mut differ: usize = 0;
     let mut left = count;
     while left > 0 {
         left -= 1;
+        let end = list_end(s, at);
+        let number = word_at(s, add(end, 33));
+        accepted = add(accepted, one_unless(number != 0));
+        refused = add(refused, one_unless(number == 0));
         differ = add(differ, one_unless(replay_placement(s, at)));
-        at = add(list_end(s, at), 65);
-        done = add(done, 1);
+        at = add(end, 65);
     }
-    Tally { at, done, differ }
+    Tally {
+        at,
+        accepted,
+        refused,
+        differ,
+    }
 }
 
 fn print(n: usize) {
     io::print_decimal(STDOUT_FILENO, n as u64);
 }
 
+// What the cases are, and whose answers were stored for them.
 fn report(d: Tally, p: Tally) {
-    print(d.done);
+    print(add(d.accepted, d.refused));
     io::write_all(STDOUT_FILENO, b" drawings and ");
-    print(p.done);
-    io::write_all(STDOUT_FILENO, b" placements of the Rust replayed, ");
+    print(add(p.accepted, p.refused));
+    io::write_all(
+        STDOUT_FILENO,
+        b" placements replayed; answers stored by compare: ",
+    );
+    print(add(d.accepted, p.accepted));
+    io::write_all(STDOUT_FILENO, b" of the Rust, ");
+    print(add(d.refused, p.refused));
+    io::write_all(STDOUT_FILENO, b" refusals by its reading of document 01; ");
     print(add(d.differ, p.differ));
     io::write_all(STDOUT_FILENO, b" differ\n");
 }

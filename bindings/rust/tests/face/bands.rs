@@ -1,7 +1,10 @@
-//! Bands drawn by themselves are the whole label, cut.
+//! Bands drawn by themselves are the whole label, cut; drawn one behind the other they are the whole.
 
-use crate::round_figure;
-use mosszephyr::{draw, draw_band, mask_bytes, workspace_words, Fill, Label, Origin, Path};
+use crate::{k1, rectangle, round_figure};
+use mosszephyr::{
+    draw, draw_band, draw_in_bands, mask_bytes, workspace_words, Drawn, Fill, Label, Origin, Path,
+    Refusal,
+};
 
 /// A band's mask and cells, drawn into memory that holds something old.
 fn band(path: &Path, label: &Label, first: usize, end: usize) -> (Vec<u8>, u32) {
@@ -84,4 +87,79 @@ fn bands_need_little_room() {
         draw_band(&round_figure(), &label, row..row + 1, bytes, &mut words).unwrap();
     }
     assert_eq!(mask, whole.mask);
+}
+
+/// Drawn at once or in bands of any height, every row is the same, also of a part of the label.
+#[test]
+fn any_step_draws_what_is_drawn_at_once() {
+    for origin in [Origin::TopLeft, Origin::BottomLeft] {
+        let label = Label {
+            origin,
+            pitch: 43,
+            ..Label::new(40, 30)
+        };
+        for (first, end) in [(0, 30), (3, 22), (9, 9)] {
+            for step in [0, 1, 2, 7, end - first, 31, usize::MAX] {
+                in_bands_as_at_once(&label, first, end, step);
+            }
+        }
+    }
+}
+
+fn in_bands_as_at_once(label: &Label, first: usize, end: usize, step: usize) {
+    let path = round_figure();
+    let (at_once, cells) = band(&path, label, first, end);
+    let (mut mask, mut words) = (vec![0xA5; at_once.len()], vec![1; 41 * 30 * 4 + 30]);
+    let drawn = draw_in_bands(&path, label, first..end, step, &mut mask, &mut words);
+    let records = 9;
+    assert_eq!(
+        drawn,
+        Ok(Drawn { records, cells }),
+        "{first}..{end} by {step}"
+    );
+    assert_eq!(mask, at_once);
+    assert!(words.iter().all(|&word| word == 0));
+}
+
+/// Row by row, little more than a word for each row serves the whole label; at once it does not.
+#[test]
+fn rows_share_a_small_room() {
+    let label = Label::new(40, 30);
+    let whole = draw(&round_figure(), &label).unwrap();
+    let (mut mask, mut words) = (vec![7; 1200], vec![9; workspace_words(1, 41).unwrap()]);
+    let refusal = draw_band(&round_figure(), &label, 0..30, &mut mask, &mut words).unwrap_err();
+    assert_eq!((refusal.number(), &mask), (Refusal::ROOM, &vec![7; 1200]));
+    let drawn = draw_in_bands(&round_figure(), &label, 0..30, 1, &mut mask, &mut words).unwrap();
+    assert_eq!((drawn.records, drawn.cells), (whole.records, whole.cells));
+    assert_eq!(mask, whole.mask);
+}
+
+/// One place in each row, two in the last: a pool of one place refuses that band, and the mask
+/// shows nothing of those before it.
+#[test]
+fn a_later_band_without_room_leaves_the_mask() {
+    let mut path = rectangle(0.0, 0.0, 4.0, 3.0);
+    path.move_to((2.0, 2.0));
+    let (mut mask, mut words) = ([7; 12], [9; 7]);
+    let refusal = draw_in_bands(&path, &Label::new(4, 3), 0..3, 1, &mut mask, &mut words);
+    let refusal = refusal.unwrap_err();
+    assert_eq!((refusal.number(), refusal.record()), (Refusal::ROOM, 0));
+    assert_eq!((mask, words), ([7; 12], [0; 7]));
+}
+
+/// 1 to 12 are judged over all rows, whatever the step: here a mask and a workspace that would do
+/// for one row, and a cut record.
+#[test]
+fn refusals_are_those_of_the_whole_band() {
+    let label = Label::new(4, 3);
+    let faulty = Path::from_bytes([k1().as_bytes(), &[2]].concat());
+    let cases = [(k1(), 11, 7, 4), (k1(), 12, 2, 5), (faulty, 12, 7, 8)];
+    for (path, bytes, count, number) in cases {
+        for step in [0, 1, usize::MAX] {
+            let (mut mask, mut words) = (vec![7; bytes], vec![9; count]);
+            let refusal = draw_in_bands(&path, &label, 0..3, step, &mut mask, &mut words);
+            assert_eq!(refusal.unwrap_err().number(), number);
+            assert_eq!((mask, words), (vec![7; bytes], vec![9; count]));
+        }
+    }
 }

@@ -1,7 +1,6 @@
 -- The loop keeps the box so far and the points that are left.
 use Prim.Native.Nat.{_-_, _≤_}
 use mathlib.Core.Path.{ap, _∙_}
-use native.Mathlib.Omega.{arith}
 use lib.ListN.{length}
 use borrow.Author.Needs.{needs}
 use lib.Ieee.{nan}

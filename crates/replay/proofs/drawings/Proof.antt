@@ -6,11 +6,11 @@ use Rattle.replay.proofs.drawings.Statement.{statement}
 use Rattle.replay.proofs.drawings.Tie as tie
 
 abbrev Inv-loop : tie.InvT-loop
-Inv-loop s from count mask₀ words₀ at₀ done₀ differ₀ left₀ mask words at done differ left =
+Inv-loop s from count mask₀ words₀ at₀ accepted₀ refused₀ differ₀ left₀ mask words at accepted refused differ left =
     (length mask ≡ length mask₀) × (length words ≡ length words₀)
 
 abbrev μ-loop : tie.MeasureT-loop
-μ-loop s from count mask₀ words₀ at₀ done₀ differ₀ left₀ mask words at done differ left = left
+μ-loop s from count mask₀ words₀ at₀ accepted₀ refused₀ differ₀ left₀ mask words at accepted refused differ left = left
 
 loop-holds : tie.Need-loop-holds Inv-loop μ-loop
 loop-holds c = search needs
@@ -18,20 +18,38 @@ loop-holds c = search needs
 sub-left : tie.Need-sub-left Inv-loop μ-loop
 sub-left c = search needs
 
-replay-drawing-requires : tie.Need-replay-drawing-requires Inv-loop μ-loop
-replay-drawing-requires c κs = search needs
-
-one-unless-requires : tie.Need-one-unless-requires Inv-loop μ-loop
-one-unless-requires c κs = search needs
+list-end-requires : tie.Need-list-end-requires Inv-loop μ-loop
+list-end-requires c κs = search needs
 
 add-requires : tie.Need-add-requires Inv-loop μ-loop
 add-requires c κs = search needs
 
-after-drawing-requires : tie.Need-after-drawing-requires Inv-loop μ-loop
-after-drawing-requires c κs = search needs
+word-at-requires : tie.Need-word-at-requires Inv-loop μ-loop
+word-at-requires c κs = search needs
+
+one-unless-requires : tie.Need-one-unless-requires Inv-loop μ-loop
+one-unless-requires c κs = search needs
 
 add-requires-2 : tie.Need-add-requires-2 Inv-loop μ-loop
 add-requires-2 c κs = search needs
+
+one-unless-requires-2 : tie.Need-one-unless-requires-2 Inv-loop μ-loop
+one-unless-requires-2 c κs = search needs
+
+add-requires-3 : tie.Need-add-requires-3 Inv-loop μ-loop
+add-requires-3 c κs = search needs
+
+replay-drawing-requires : tie.Need-replay-drawing-requires Inv-loop μ-loop
+replay-drawing-requires c κs = search needs
+
+one-unless-requires-3 : tie.Need-one-unless-requires-3 Inv-loop μ-loop
+one-unless-requires-3 c κs = search needs
+
+add-requires-4 : tie.Need-add-requires-4 Inv-loop μ-loop
+add-requires-4 c κs = search needs
+
+after-drawing-requires : tie.Need-after-drawing-requires Inv-loop μ-loop
+after-drawing-requires c κs = search needs
 
 loop-less : tie.Need-loop-less Inv-loop μ-loop
 loop-less c = search needs
@@ -56,11 +74,17 @@ drawings-spec =
     μ-loop
     loop-holds
     sub-left
-    replay-drawing-requires
-    one-unless-requires
+    list-end-requires
     add-requires
-    after-drawing-requires
+    word-at-requires
+    one-unless-requires
     add-requires-2
+    one-unless-requires-2
+    add-requires-3
+    replay-drawing-requires
+    one-unless-requires-3
+    add-requires-4
+    after-drawing-requires
     loop-less
     loop-again
     same-length
