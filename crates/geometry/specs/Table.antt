@@ -11,7 +11,7 @@ use Rattle.geometry.specs.declared.Bounds.{Bounds}
 use Rattle.geometry.specs.declared.Origin.the-variants.{TopLeft, BottomLeft}
 use Rattle.geometry.specs.declared.Placed.{Placed}
 use Rattle.geometry.specs.declared.Placed.the-variants.{At, Outside}
-use Rattle.geometry.specs.Affine.{transformOf, identityOf, scaleOf, combineOf, translatedOf, moved}
+use Rattle.geometry.specs.Affine.{shifted, transformOf, identityOf, translationOf, scaleOf, combineOf, translatedOf, moved}
 use Rattle.geometry.specs.Bits.{float, at}
 use Rattle.geometry.specs.Box.{boundsOf, boxFrom, boxOf}
 use Rattle.geometry.specs.Placing.{reaches, placedOf}
@@ -46,6 +46,15 @@ turned = refl
 rounded : bits (moved (transformOf (float 0x3dcc_cccd) (float 0) (float 0x3e4c_cccd) (float 0) (float 0x3e99_999a) (float 0)) (at 0x3dcc_cccd 0x3e4c_cccd)) ≡ (0x3eb3_3334 ∷ 0 ∷ [])
 unfolding bits ofBits toBits add mul
 rounded = refl
+
+-- (1, 2) moved by (1.5, -2), as a transform and as an offset
+translated : bits (moved (translationOf (float 0x3fc0_0000) (float 0xc000_0000)) (at 0x3f80_0000 0x4000_0000)) ≡ (0x4020_0000 ∷ 0 ∷ [])
+unfolding bits ofBits toBits add mul
+translated = refl
+
+offset : bits (shifted (at 0x3fc0_0000 0xc000_0000) (at 0x3f80_0000 0x4000_0000)) ≡ (0x4020_0000 ∷ 0 ∷ [])
+unfolding bits ofBits toBits add
+offset = refl
 
 -- ---- boxes
 
