@@ -36,6 +36,7 @@ pub fn bench(words: &[String]) -> Result<(), Stopped> {
     }
     times(&groups, labels as usize, rounds as usize);
     shares(&groups, labels as usize, rounds as usize);
+    in_bands(&groups, labels as usize, rounds as usize);
     Ok(())
 }
 
@@ -118,5 +119,35 @@ fn shares(groups: &[Group], labels: usize, rounds: usize) {
         let times = [zeno_path, zeno_sweep, whole, judging, path, sweep, wiping];
         let cells: Vec<String> = times.iter().map(|&t| format!("{:.4}", ms(t))).collect();
         println!("| {} | {} |", group.name, cells.join(" | "));
+    }
+}
+
+/// Rows of a band.
+const STEPS: [usize; 3] = [256, 64, 16];
+
+/// The port at once and in bands, each of which reads the list anew, twice.
+fn in_bands(groups: &[Group], labels: usize, rounds: usize) {
+    println!("\nIn bands of so many rows, milliseconds a label, the workspace fitting at once.\n");
+    let heads: Vec<String> = STEPS
+        .iter()
+        .map(|step| format!("bands of {step}"))
+        .collect();
+    println!("| labels | at once | {} |", heads.join(" | "));
+    println!("|---|---|{}", "---|".repeat(STEPS.len()));
+    for group in groups {
+        let least = |step: Option<usize>| {
+            let times = (0..rounds).map(|_| passes::in_bands(group, labels, step));
+            1000.0 * times.min().unwrap_or_default().as_secs_f64() / labels as f64
+        };
+        let steps = STEPS
+            .iter()
+            .map(|&step| format!("{:.4}", least(Some(step))));
+        let cells: Vec<String> = steps.collect();
+        println!(
+            "| {} | {:.4} | {} |",
+            group.name,
+            least(None),
+            cells.join(" | ")
+        );
     }
 }

@@ -122,6 +122,17 @@ pub fn parts(group: &Group, labels: usize) -> Parts {
     }
 }
 
+/// Labels drawn so many rows at a time, or at once.
+pub fn in_bands(group: &Group, labels: usize, step: Option<usize>) -> Duration {
+    timed(group, labels, |n, mask, words| {
+        let call = &group.samples[n].call;
+        match step {
+            Some(step) => face::draw_in_bands(call, step, &call.list, mask, words),
+            None => face::draw(call, &call.list, mask, words),
+        }
+    })
+}
+
 /// The time of so many calls, each with a number of a sample and a workspace that fits it.
 fn timed(
     group: &Group,
