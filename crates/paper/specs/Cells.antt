@@ -1,0 +1,80 @@
+-- docs/RULES.md, "Lines, curves, cells": cells. What a drawing stores, in order.
+use Prim.Native.Nat.{ℕ, _+_ as _+ℕ_}
+use mathlib.Core.Bool.{Bool, false, cond, _&&_, _||_}
+use mathlib.Core.List.{List, [], _∷_, _++_}
+use lib.IntN.{ℤ, pos}
+use Rattle.geometry.specs.declared.Point.{Point}
+use Rattle.command.specs.declared.Command.{Command}
+use Rattle.command.specs.declared.Command.the-variants.{MoveTo, LineTo, QuadTo, CurveTo, Close}
+use Rattle.label.specs.declared.Label.{Label}
+use Rattle.paper.specs.Numbers.{−1, +0, _+_, _<_, _≤_, _==_, wrapped}
+use Rattle.paper.specs.Floats.{moved, shifted, fixedOf, Spot, cell}
+use Rattle.paper.specs.Lines.{Mark, enter, give, line}
+use Rattle.paper.specs.Curves.{quad, cubic}
+
+unfoldable pub spotIn : Label → Point → Spot  -- a point of the list in 24.8 numbers
+spotIn l p = let q = shifted (l .offset) (moved (l .transform) p) in record { x = fixedOf (q .x); y = fixedOf (q .y) }
+
+-- what the pen does, from point a on, in a subpath begun at s. MoveTo and the end first draw a line back to s, which
+-- gives nothing where the subpath is closed. A MoveTo enters its cell even where the pen is in it. After Close the pen
+-- is at s
+unfoldable pub marks : Label → Spot → Spot → List Command → List Mark
+marks l a s [] = line l a s
+marks l a s (MoveTo p ∷ cs) =
+    let b = spotIn l p in
+    line l a s ++ enter (cell (b .x)) (cell (b .y)) ∷ marks l b b cs
+marks l a s (LineTo p ∷ cs) = line l a (spotIn l p) ++ marks l (spotIn l p) s cs
+marks l a s (QuadTo c p ∷ cs) = quad l a (spotIn l c) (spotIn l p) ++ marks l (spotIn l p) s cs
+marks l a s (CurveTo c d p ∷ cs) =
+    cubic l a (spotIn l c) (spotIn l d) (spotIn l p) ++ marks l (spotIn l p) s cs
+marks l a s (Close ∷ cs) = line l a s ++ marks l s s cs
+
+pub record Pair : Type 0 where  -- a cell, and what the pen has given it
+  pub column : ℤ
+  pub row : ℤ
+  pub cover : ℤ
+  pub area : ℤ
+
+abbrev pub pairAt : ℤ → ℤ → ℤ → ℤ → Pair
+pairAt column row cover area = record { column = column; row = row; cover = cover; area = area }
+
+pub data Pen : Type 0 where  -- where the pen is: in no cell yet, or in one
+  lifted : Pen
+  within : Pair → Pen
+
+abbrev pub given : Pen → ℤ → ℤ → Pen  -- what is given is added up, in 32 bits with a sign
+given lifted v a = lifted
+given (within d) v a = within (pairAt (d .column) (d .row) (wrapped (d .cover + v)) (wrapped (d .area + a)))
+
+abbrev pub inside : Label → Pair → Bool  -- left of the right edge, and in a row of the band
+inside l d = d .column < pos (l .width) && pos (l .first) ≤ d .row && d .row < pos (l .end)
+
+abbrev pub counted : Pair → Pair  -- all cells to the left of column −1 count as column −1
+counted d = pairAt (cond (d .column < −1) −1 (d .column)) (d .row) (d .cover) (d .area)
+
+abbrev pub keep : Label → Pair → List Pair → List Pair  -- only what is inside is stored
+keep l d ds = cond (inside l d) (counted d ∷ ds) ds
+
+abbrev pub leave : Label → Pen → List Pair → List Pair  -- a cell that is left is stored, unless cover and area are 0
+leave l lifted ds = ds
+leave l (within d) ds = cond (d .cover == +0 && d .area == +0) ds (keep l d ds)
+
+abbrev pub finish : Label → Pen → List Pair  -- the last cell is stored even then
+finish l lifted = []
+finish l (within d) = keep l d []
+
+unfoldable pub stored : Label → Pen → List Mark → List Pair
+stored l pen [] = finish l pen
+stored l pen (enter c r ∷ ms) = leave l pen (stored l (within (pairAt c r +0 +0)) ms)
+stored l pen (give v a ∷ ms) = stored l (given pen v a) ms
+
+unfoldable pub cellsOf : Label → List Command → List Pair  -- the pen's point is (0,0) before the first command
+cellsOf l cs = let corner : Spot = record { x = +0; y = +0 } in stored l lifted (marks l corner corner cs)
+
+unfoldable pub known : List Pair → Pair → Bool  -- a place is a column and a row
+known [] d = false
+known (e ∷ es) d = (d .column == e .column && d .row == e .row) || known es d
+
+unfoldable pub distinct : List Pair → ℕ  -- how many places were stored into
+distinct [] = 0
+distinct (d ∷ ds) = distinct ds +ℕ cond (known ds d) 0 1

@@ -1,0 +1,78 @@
+-- docs/RULES.md, "From floats to 24.8 numbers": points, the point rule, cells, transforms.
+use Prim.Native.Nat.{_*_ as _*ℕ_, _/_ as _/ℕ_}
+use mathlib.Core.Bool.{Bool, cond, _&&_}
+use lib.Dec.{leb}
+use lib.IntN.{ℤ, pos, negℤ, natAbs}
+use lib.Ieee.{Float, nan, inf, fin, binary32, ofBits, add, mul, up, down}
+use lib.Ieee.Scale.{finite}
+use Rattle.geometry.specs.declared.Point.{Point}
+use Rattle.geometry.specs.declared.Transform.{Transform}
+use Rattle.paper.specs.Numbers.{_-_, _·_, _/_, +0}
+
+-- a sum and a product of binary32 floats, each rounded once, to the nearest, ties to even
+infixl 65 _⊕_
+abbrev pub _⊕_ : Float → Float → Float
+a ⊕ b = add binary32 a b
+
+infixl 70 _⊗_
+abbrev pub _⊗_ : Float → Float → Float
+a ⊗ b = mul binary32 a b
+
+abbrev pub moved : Transform → Point → Point  -- a point under a transform
+moved t p = record {
+  x = (p .x ⊗ t .xx ⊕ p .y ⊗ t .yx) ⊕ t .x;
+  y = (p .x ⊗ t .xy ⊕ p .y ⊗ t .yy) ⊕ t .y;
+}
+
+abbrev pub shifted : Point → Point → Point  -- and with the offset added
+shifted o p = record { x = p .x ⊕ o .x; y = p .y ⊕ o .y }
+
+-- 256 times a float, cut toward zero. A finite float is m · 2^e, or −m · 2^e if its sign is set; 2^e is up e / down e
+unfoldable pub fixedOf : Float → ℤ
+fixedOf nan = +0
+fixedOf (inf sign) = +0
+fixedOf (fin sign m e) = let n = pos (m *ℕ up e *ℕ 256 /ℕ down e) in cond sign (negℤ n) n
+
+pub record Spot : Type 0 where  -- a point in 24.8 numbers: whole numbers of 256ths
+  pub x : ℤ
+  pub y : ℤ
+
+abbrev pub near : Float → Bool  -- finite, and when cut within 524,288 (2,048 pixels) of zero
+near v = finite v && leb (natAbs (fixedOf v)) 524288
+
+abbrev pub passes : Point → Bool  -- the point rule: both parts are near
+passes p = near (p .x) && near (p .y)
+
+abbrev pub cell : ℤ → ℤ  -- the column or row in which a 24.8 number lies
+cell z = z / 256
+
+abbrev pub fraction : ℤ → ℤ  -- how far in, from 0 to 255
+fraction z = z - 256 · cell z
+
+abbrev pub zero : Float
+zero = ofBits binary32 0
+
+abbrev pub one : Float
+one = ofBits binary32 0x3f80_0000
+
+abbrev pub scale : Float → Float → Transform
+scale a b = record { xx = a; xy = zero; yx = zero; yy = b; x = zero; y = zero }
+
+abbrev pub translation : Float → Float → Transform
+translation a b = record { xx = one; xy = zero; yx = zero; yy = one; x = a; y = b }
+
+abbrev pub identity : Transform
+identity = scale one one
+
+abbrev pub combine : Transform → Transform → Transform  -- of a and b; what is scaled is combined with a scale
+combine a b = record {
+  xx = a .xx ⊗ b .xx ⊕ a .yx ⊗ b .xy;
+  yx = a .xx ⊗ b .yx ⊕ a .yx ⊗ b .yy;
+  xy = a .xy ⊗ b .xx ⊕ a .yy ⊗ b .xy;
+  yy = a .xy ⊗ b .yx ⊕ a .yy ⊗ b .yy;
+  x = a .x ⊗ b .xx ⊕ a .y ⊗ b .xy ⊕ b .x;
+  y = a .x ⊗ b .yx ⊕ a .y ⊗ b .yy ⊕ b .y;
+}
+
+abbrev pub thenTranslate : Transform → Float → Float → Transform  -- a move behind a transform only adds to x and y
+thenTranslate t a b = record { xx = t .xx; xy = t .xy; yx = t .yx; yy = t .yy; x = t .x ⊕ a; y = t .y ⊕ b }

@@ -1,0 +1,12 @@
+pub mod Numbers
+pub mod Steps
+pub mod PathList
+pub mod Floats
+pub mod TurnedAway
+pub mod Lines
+pub mod Curves
+pub mod Cells
+pub mod Bytes
+pub mod Drawing
+pub mod Placing
+pub mod Table
