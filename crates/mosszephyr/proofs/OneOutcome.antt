@@ -1,15 +1,14 @@
 -- No two outcomes satisfy a promise of the C face. `mz_test_cells` is the exception, as `label::cells` is: it leaves each word open.
 use Prim.Native.Nat.{ℕ}
-use mathlib.Core.Path.{_≡_, sym, _∙_}
+use mathlib.Core.Path.{_≡_, sym, ap, _∙_}
 use mathlib.Core.List.{List}
 use contract.Lifetimes.{Lfts}
 use denote.Ref.{now}
 use denote.Triple.Clauses.{AtExit}
 use borrow.Fn.Kinds.{Dens, resT, endedOf}
 use Rattle.label.specs.declared.Numbers.{Numbers}
-use Rattle.label.specs.Draw.{Outcome}
+use Rattle.paper.specs.Drawing.{Outcome, left}
 use Rattle.claims.proofs.OneOutcome.{OneAnswer}
-use Rattle.mosszephyr.specs.Face.{Drawn}
 use Rattle.mosszephyr.proofs.mz_draw.Kinds as mz-draw-kinds
 use Rattle.mosszephyr.proofs.mz_draw.Reads as mz-draw-reads
 use Rattle.mosszephyr.proofs.mz_draw_in_bands.Kinds as mz-draw-in-bands-kinds
@@ -40,8 +39,11 @@ use Rattle.mosszephyr.proofs.mz_test_place.Kinds as mz-test-place-kinds
 use Rattle.mosszephyr.proofs.mz_test_place.Reads as mz-test-place-reads
 
 -- ---- drawings: the numbers, the mask and the words afterwards
-same : {o : Outcome} {mask mask′ words words′ : List ℕ} {r r′ : Numbers} → Drawn o mask words r → Drawn o mask′ words′ r′ → (r ≡ r′) × (mask ≡ mask′) × (words ≡ words′)
-same p q = (p .answer ∙ sym (q .answer), p .mask-after ∙ sym (q .mask-after), p .words-after ∙ sym (q .words-after))
+same : {o : Outcome} {mask mask′ words words′ : List ℕ} {r r′ : Numbers} → left r mask words ≡ o → left r′ mask′ words′ ≡ o
+    → (r ≡ r′) × (mask ≡ mask′) × (words ≡ words′)
+same p q =
+    let e = p ∙ sym q in
+    (ap (λ (x : Outcome). x .answer) e, ap (λ (x : Outcome). x .mask) e, ap (λ (x : Outcome). x .words) e)
 
 pub mz-draw : (κs : Lfts 3) (a : Dens κs mz-draw-kinds.ps) (z z′ : resT mz-draw-kinds.r κs .Denot) (e e′ : AtExit (endedOf 3 mz-draw-kinds.ps mz-draw-kinds.r) κs)
     → mz-draw-reads.Learnt κs a z e → mz-draw-reads.Learnt κs a z′ e′

@@ -10,7 +10,7 @@ use Rattle.sweep.specs.declared.Fill.the-variants.{NonZero, EvenOdd}
 use Rattle.label.specs.declared.Label.{Label}
 use Rattle.label.specs.declared.Answer.{Answer}
 use Rattle.label.specs.declared.Numbers.{Numbers}
-use Rattle.label.specs.Draw.{numbersOf, Outcome}
+use Rattle.label.specs.Draw.{numbersOf}
 use Rattle.label.specs.Inking as inking
 use Rattle.mosszephyr.specs.declared.MzTransform.{MzTransform}
 use Rattle.mosszephyr.specs.Tests.{outOfC}
@@ -31,12 +31,6 @@ labelOf t x y evenOdd up width height pitch first end = record {
   first = first;
   end = end;
 }
-
--- the answer in the paper's numbers, the mask and the words after it are the outcome's
-pub record Drawn (o : Outcome) (mask words : List ℕ) (r : Numbers) : Type 0 where
-  pub answer : r ≡ numbersOf (o .answer)
-  pub mask-after : mask ≡ o .mask
-  pub words-after : words ≡ o .words
 
 -- the numbers of an answer with its cells in the words (`label::cells`)
 pub record Celled (l : Label) (s words words′ : List ℕ) (r : Numbers) : Type 0 where

@@ -13,14 +13,12 @@ use placing::PlaceNumbers;
 use sweep::Fill;
 ghost use mathlib.Core.Path.{_≡_};
 ghost use mathlib.Core.Bool.{false};
-ghost use Rattle.geometry.specs.Affine.{pointOf, identityOf, scaleOf, translationOf, combineOf, translatedOf, moved, movedVector};
-ghost use Rattle.geometry.specs.Box.{boxOf};
+ghost use Rattle.geometry.specs.Affine.{pointOf};
 ghost use Rattle.geometry.specs.Placing.{placedOf};
-ghost use Rattle.label.specs.Draw.{numbersOf, drawOf};
-ghost use Rattle.bands.specs.InBands.{drawInBandsOf};
-ghost use Rattle.placing.specs.Placing.{boundsOf, laidOf};
-ghost use Rattle.placing.specs.Numbers.{boxNumbersOf, placeNumbersOf};
-ghost use Rattle.mosszephyr.specs.Face.{fillOf, labelOf, Drawn, Celled};
+ghost use Rattle.paper.specs.Floats.{identity, scale, translation, combine, thenTranslate, moved, movedVector};
+ghost use Rattle.paper.specs.Drawing.{left, draw, drawInBands};
+ghost use Rattle.paper.specs.Placing.{boxOf, bounds as boundsOf, placement as placementOf};
+ghost use Rattle.mosszephyr.specs.Face.{fillOf, labelOf, Celled};
 ghost use Rattle.mosszephyr.specs.Tests.{inC, outOfC, pointInC, pointOutOfC, boxInC, boxOutOfC, originOf, placedInC, pairsOf};
 
 #[repr(C)]
@@ -108,8 +106,9 @@ pub extern "C" fn mz_draw(
     mask: &mut [u8],
     words: &mut [u32],
 ) -> MzDrawn
-    ensures { λ r. ⌜ Drawn (drawOf (labelOf transform «offset_x» «offset_y» «even_odd» up width height pitch first end) (now (list .entry))
-        (now (mask .entry)) (now (words .entry))) (now (mask .exit)) (now (words .exit)) r ⌝ }
+    ensures { λ r. ⌜ left r (now (mask .exit)) (now (words .exit))
+        ≡ draw (labelOf transform «offset_x» «offset_y» «even_odd» up width height pitch first end)
+        (now (list .entry)) (now (mask .entry)) (now (words .entry)) ⌝ }
 {
     let label = label_of(
         transform,
@@ -123,7 +122,7 @@ pub extern "C" fn mz_draw(
         first,
         end,
     );
-    label::numbers_of(label::draw(list, label, mask, words))
+    paper::draw(list, label, mask, words)
 }
 
 // Draws the same in bands of `step` rows, with less room.
@@ -144,8 +143,9 @@ pub extern "C" fn mz_draw_in_bands(
     mask: &mut [u8],
     words: &mut [u32],
 ) -> MzDrawn
-    ensures { λ r. ⌜ Drawn (drawInBandsOf step (labelOf transform «offset_x» «offset_y» «even_odd» up width height pitch first end)
-        (now (list .entry)) (now (mask .entry)) (now (words .entry))) (now (mask .exit)) (now (words .exit)) r ⌝ }
+    ensures { λ r. ⌜ left r (now (mask .exit)) (now (words .exit))
+        ≡ drawInBands step (labelOf transform «offset_x» «offset_y» «even_odd» up width height pitch first end)
+        (now (list .entry)) (now (mask .entry)) (now (words .entry)) ⌝ }
 {
     let label = label_of(
         transform,
@@ -159,15 +159,15 @@ pub extern "C" fn mz_draw_in_bands(
         first,
         end,
     );
-    label::numbers_of(bands::draw_in_bands(list, label, step, mask, words))
+    paper::draw_in_bands(list, label, step, mask, words)
 }
 
 // The box of a list's transformed points.
 #[no_mangle]
 pub extern "C" fn mz_bounds(list: &[u8], transform: MzTransform) -> MzBounds
-    ensures { λ r. ⌜ r ≡ boxNumbersOf (boundsOf (outOfC transform) (now (list .entry))) ⌝ }
+    ensures { λ r. ⌜ r ≡ boundsOf (outOfC transform) (now (list .entry)) ⌝ }
 {
-    placing::box_numbers(placing::bounds(list, transform_of(transform)))
+    paper::bounds(list, transform_of(transform))
 }
 
 // Where the mask of a list lies, and its size.
@@ -179,14 +179,14 @@ pub extern "C" fn mz_placement(
     offset_y: f32,
     bottom_left: bool,
 ) -> MzPlacement
-    ensures { λ r. ⌜ r ≡ placeNumbersOf (laidOf (originOf «bottom_left») (outOfC transform) (pointOf «offset_x» «offset_y») (now (list .entry))) ⌝ }
+    ensures { λ r. ⌜ r ≡ placementOf (originOf «bottom_left») (outOfC transform) (pointOf «offset_x» «offset_y») (now (list .entry)) ⌝ }
 {
-    placing::place_numbers(placing::placement(
+    paper::placement(
         list,
         transform_of(transform),
         Point::new(offset_x, offset_y),
         origin_of(bottom_left),
-    ))
+    )
 }
 
 // ---- for the runs against the Rust
@@ -297,42 +297,42 @@ fn mz_placed(p: Placed) -> MzPlaced
 
 #[no_mangle]
 pub extern "C" fn mz_test_identity() -> MzTransform
-    ensures { λ r. ⌜ r ≡ inC identityOf ⌝ }
+    ensures { λ r. ⌜ r ≡ inC identity ⌝ }
 {
     mz_transform(Transform::identity())
 }
 
 #[no_mangle]
 pub extern "C" fn mz_test_then_scale(t: MzTransform, x: f32, y: f32) -> MzTransform
-    ensures { λ r. ⌜ r ≡ inC (combineOf (outOfC t) (scaleOf x y)) ⌝ }
+    ensures { λ r. ⌜ r ≡ inC (combine (outOfC t) (scale x y)) ⌝ }
 {
     mz_transform(transform_of(t).then_scale(x, y))
 }
 
 #[no_mangle]
 pub extern "C" fn mz_test_then_translate(t: MzTransform, x: f32, y: f32) -> MzTransform
-    ensures { λ r. ⌜ r ≡ inC (translatedOf (outOfC t) x y) ⌝ }
+    ensures { λ r. ⌜ r ≡ inC (thenTranslate (outOfC t) x y) ⌝ }
 {
     mz_transform(transform_of(t).then_translate(x, y))
 }
 
 #[no_mangle]
 pub extern "C" fn mz_test_then(t: MzTransform, u: MzTransform) -> MzTransform
-    ensures { λ r. ⌜ r ≡ inC (combineOf (outOfC t) (outOfC u)) ⌝ }
+    ensures { λ r. ⌜ r ≡ inC (combine (outOfC t) (outOfC u)) ⌝ }
 {
     mz_transform(transform_of(t).then(transform_of(u)))
 }
 
 #[no_mangle]
 pub extern "C" fn mz_test_pre_scale(t: MzTransform, x: f32, y: f32) -> MzTransform
-    ensures { λ r. ⌜ r ≡ inC (combineOf (scaleOf x y) (outOfC t)) ⌝ }
+    ensures { λ r. ⌜ r ≡ inC (combine (scale x y) (outOfC t)) ⌝ }
 {
     mz_transform(transform_of(t).pre_scale(x, y))
 }
 
 #[no_mangle]
 pub extern "C" fn mz_test_pre_translate(t: MzTransform, x: f32, y: f32) -> MzTransform
-    ensures { λ r. ⌜ r ≡ inC (combineOf (translationOf x y) (outOfC t)) ⌝ }
+    ensures { λ r. ⌜ r ≡ inC (combine (translation x y) (outOfC t)) ⌝ }
 {
     mz_transform(transform_of(t).pre_translate(x, y))
 }

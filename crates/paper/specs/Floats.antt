@@ -24,7 +24,10 @@ moved t p = record {
   y = (p .x ⊗ t .xy ⊕ p .y ⊗ t .yy) ⊕ t .y;
 }
 
-abbrev pub shifted : Point → Point → Point  -- and with the offset added
+abbrev pub movedVector : Transform → Point → Point  -- a vector, which the last two entries leave alone
+movedVector t p = record { x = p .x ⊗ t .xx ⊕ p .y ⊗ t .yx; y = p .x ⊗ t .xy ⊕ p .y ⊗ t .yy }
+
+abbrev pub shifted : Point → Point → Point  -- a point with the offset added
 shifted o p = record { x = p .x ⊕ o .x; y = p .y ⊕ o .y }
 
 -- 256 times a float, cut toward zero. A finite float is m · 2^e, or −m · 2^e if its sign is set; 2^e is up e / down e

@@ -233,7 +233,7 @@ fn words_agree(words: &[u32], number: u32) -> bool {
 fn draw_agrees(s: &[u8], list: &[u8], at: usize, mask: &mut [u8], words: &mut [u32]) -> bool {
     fill_mask(mask);
     fill_words(words);
-    let n = label::numbers_of(label::draw(list, label_at(s, at), mask, words));
+    let n = paper::draw(list, label_at(s, at), mask, words);
     if !numbers_agree(s, at, n) {
         return false;
     }
@@ -371,7 +371,7 @@ fn replay_placement(s: &[u8], at: usize) -> bool {
     let t = transform_at(s, end);
     let o = point_at(s, add(end, 24));
     let origin = origin_of(byte_at(s, add(end, 32)));
-    let n = placing::place_numbers(placing::placement(&s[start..end], t, o, origin));
+    let n = paper::placement(&s[start..end], t, o, origin);
     place_agrees(s, add(end, 33), n)
 }
 
@@ -414,7 +414,7 @@ fn report(d: Tally, p: Tally) {
     print(add(d.accepted, p.accepted));
     io::write_all(STDOUT_FILENO, b" of the Rust, ");
     print(add(d.refused, p.refused));
-    io::write_all(STDOUT_FILENO, b" refusals by its reading of document 01; ");
+    io::write_all(STDOUT_FILENO, b" refusals by its reading of the rules; ");
     print(add(d.differ, p.differ));
     io::write_all(STDOUT_FILENO, b" differ\n");
 }

@@ -1,13 +1,12 @@
 -- What the crate below promises, in the types of the face.
-use Rattle.label.specs.Draw.{drawOf}
+use Rattle.paper.specs.Drawing.{draw}
 use Rattle.mosszephyr.proofs.Drawings.{drawn}
 use borrow.Author.Needs.{needs}
 use Rattle.mosszephyr.proofs.mz_draw.Statement.{statement}
 use Rattle.mosszephyr.proofs.mz_draw.Tie as tie
 use Rattle.mosszephyr.proofs.mz_draw.Reads as reads
 use Rattle.mosszephyr.proofs.mz_draw.Lts as lts
-use Rattle.label.proofs.draw.Reads as draw-reads
-use Rattle.label.proofs.numbers_of.Reads as numbers-of-reads
+use Rattle.paper.proofs.draw.Reads as draw-reads
 use Rattle.mosszephyr.proofs.label_of.Reads as label-of-reads
 
 label-of-requires : tie.Need-label-of-requires
@@ -15,9 +14,6 @@ label-of-requires c κs = search needs
 
 draw-requires : tie.Need-draw-requires
 draw-requires c κs = search needs
-
-numbers-of-requires : tie.Need-numbers-of-requires
-numbers-of-requires c κs = search needs
 
 same-length : tie.Need-same-length
 same-length c = search needs
@@ -27,16 +23,8 @@ same-length-2 c = search needs
 
 returns : tie.Need-returns
 returns c =
-    let d = c .before .before .before .before .before in
-    drawn (d .before .before .before .label-of .ensures) _ _ _ _ _ (c .numbers-of .ensures) drawOf _ _ (d .draw .ensures)
+    let d = c .before .before .before .before in
+    drawn (d .before .before .before .label-of .ensures) draw _ _ _ _ (d .draw .ensures)
 
 pub mz-draw-spec : {M : Type 1} → statement M
-mz-draw-spec =
-    tie.close
-    (tie.spec
-    label-of-requires
-    draw-requires
-    numbers-of-requires
-    same-length
-    same-length-2
-    returns)
+mz-draw-spec = tie.close (tie.spec label-of-requires draw-requires same-length same-length-2 returns)

@@ -1,13 +1,12 @@
 -- What the crate below promises, in the types of the face.
-use Rattle.bands.specs.InBands.{drawInBandsOf}
+use Rattle.paper.specs.Drawing.{drawInBands}
 use Rattle.mosszephyr.proofs.Drawings.{drawn}
 use borrow.Author.Needs.{needs}
 use Rattle.mosszephyr.proofs.mz_draw_in_bands.Statement.{statement}
 use Rattle.mosszephyr.proofs.mz_draw_in_bands.Tie as tie
 use Rattle.mosszephyr.proofs.mz_draw_in_bands.Reads as reads
 use Rattle.mosszephyr.proofs.mz_draw_in_bands.Lts as lts
-use Rattle.bands.proofs.draw_in_bands.Reads as draw-in-bands-reads
-use Rattle.label.proofs.numbers_of.Reads as numbers-of-reads
+use Rattle.paper.proofs.draw_in_bands.Reads as draw-in-bands-reads
 use Rattle.mosszephyr.proofs.label_of.Reads as label-of-reads
 
 label-of-requires : tie.Need-label-of-requires
@@ -15,9 +14,6 @@ label-of-requires c κs = search needs
 
 draw-in-bands-requires : tie.Need-draw-in-bands-requires
 draw-in-bands-requires c κs = search needs
-
-numbers-of-requires : tie.Need-numbers-of-requires
-numbers-of-requires c κs = search needs
 
 same-length : tie.Need-same-length
 same-length c = search needs
@@ -27,16 +23,8 @@ same-length-2 c = search needs
 
 returns : tie.Need-returns
 returns c =
-    let d = c .before .before .before .before .before in
-    drawn (d .before .before .before .label-of .ensures) _ _ _ _ _ (c .numbers-of .ensures) (drawInBandsOf _) _ _ (d .draw-in-bands .ensures .0)
+    let d = c .before .before .before .before in
+    drawn (d .before .before .before .label-of .ensures) (drawInBands _) _ _ _ _ (d .draw-in-bands .ensures)
 
 pub mz-draw-in-bands-spec : {M : Type 1} → statement M
-mz-draw-in-bands-spec =
-    tie.close
-    (tie.spec
-    label-of-requires
-    draw-in-bands-requires
-    numbers-of-requires
-    same-length
-    same-length-2
-    returns)
+mz-draw-in-bands-spec = tie.close (tie.spec label-of-requires draw-in-bands-requires same-length same-length-2 returns)

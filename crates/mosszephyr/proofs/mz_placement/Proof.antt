@@ -7,8 +7,7 @@ use Rattle.mosszephyr.proofs.mz_placement.Lts as lts
 use Rattle.geometry.proofs.Point.new.Reads as new-reads
 use Rattle.mosszephyr.proofs.origin_of.Reads as origin-of-reads
 use Rattle.mosszephyr.proofs.transform_of.Reads as transform-of-reads
-use Rattle.placing.proofs.place_numbers.Reads as place-numbers-reads
-use Rattle.placing.proofs.placement.Reads as placement-reads
+use Rattle.paper.proofs.placement.Reads as placement-reads
 
 transform-of-requires : tie.Need-transform-of-requires
 transform-of-requires c κs = search needs
@@ -22,13 +21,10 @@ origin-of-requires c κs = search needs
 placement-requires : tie.Need-placement-requires
 placement-requires c κs = search needs
 
-place-numbers-requires : tie.Need-place-numbers-requires
-place-numbers-requires c κs = search needs
-
 returns : tie.Need-returns
 returns c =
-    let o = c .before .before in
-    rw (c .place-numbers .ensures, c .before .placement .ensures, o .origin-of .ensures, o .before .new .ensures, o .before .before .transform-of .ensures)
+    let o = c .before in
+    rw (c .placement .ensures, o .origin-of .ensures, o .before .new .ensures, o .before .before .transform-of .ensures)
 
 pub mz-placement-spec : {M : Type 1} → statement M
 mz-placement-spec =
@@ -38,5 +34,4 @@ mz-placement-spec =
     new-requires
     origin-of-requires
     placement-requires
-    place-numbers-requires
     returns)

@@ -1,9 +1,10 @@
 -- The loop keeps the box so far and the points that are left.
 use Prim.Native.Nat.{_-_, _≤_}
-use mathlib.Core.Path.{ap, _∙_}
+use mathlib.Core.Path.{sym, ap, _∙_}
 use lib.ListN.{length}
 use borrow.Author.Needs.{needs}
 use lib.Ieee.{nan}
+use Rattle.paper.proofs.Placing.{box-of}
 use Rattle.mosszephyr.specs.Tests.{boxInC}
 use Rattle.mosszephyr.proofs.Pairs.{Going, none, started, goes-on, done}
 use Rattle.mosszephyr.proofs.mz_test_box.Statement.{statement}
@@ -25,7 +26,7 @@ mz-box-requires : tie.Need-mz-box-requires Inv-loop μ-loop
 mz-box-requires c κs = search needs
 
 returns : tie.Need-returns Inv-loop μ-loop
-returns c = rw (c .mz-box .ensures, c .before .of .ensures, c .before .before .new .ensures) (ap boxInC (none _ (c .before .before .before .if1 .taken)))
+returns c = rw (c .mz-box .ensures, c .before .of .ensures, c .before .before .new .ensures) (ap boxInC (none _ (c .before .before .before .if1 .taken) ∙ sym (box-of _)))
 
 shared-slice-read-new : tie.Need-shared-slice-read-new Inv-loop μ-loop
 shared-slice-read-new c = search needs
@@ -87,7 +88,7 @@ returns-2 : tie.Need-returns-2 Inv-loop μ-loop
 returns-2 c =
     let t = c .before in
     let l = t .before .loop in
-    c .mz-box2 .ensures ∙ ap boxInC (done _ _ _ (l .i) (l .inv .0) (t .loop-test .left))
+    c .mz-box2 .ensures ∙ ap boxInC (done _ _ _ (l .i) (l .inv .0) (t .loop-test .left) ∙ sym (box-of _))
 
 pub mz-test-box-spec : {M : Type 1} → statement M
 mz-test-box-spec =
