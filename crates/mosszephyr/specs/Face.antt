@@ -32,7 +32,7 @@ labelOf t x y evenOdd up width height pitch first end = record {
   end = end;
 }
 
--- the answer in the paper's numbers, the mask and the words after it are the outcome's
+-- the answer in the rules' numbers, the mask and the words after it are the outcome's
 pub record Drawn (o : Outcome) (mask words : List ℕ) (r : Numbers) : Type 0 where
   pub answer : r ≡ numbersOf (o .answer)
   pub mask-after : mask ≡ o .mask
