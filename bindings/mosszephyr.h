@@ -8,8 +8,8 @@
  * The path list
  * -------------
  * A list is bytes, at most 65,536 of them: records behind each other, with nothing between, before
- * or after. A record is a 2-byte length, a 2-byte kind, then coordinates, all little-endian. The
- * length counts the bytes after itself. A coordinate is an IEEE 754 binary32 number, x before y.
+ * or after. A record has two bytes of length, in which these two are not counted, two bytes of kind
+ * and the coordinates, x before y, four bytes each: IEEE 754 binary32. The lowest byte comes first.
  *
  *     kind  command             length  record's bytes
  *        1  MoveTo p                10              12
@@ -19,37 +19,37 @@
  *        5  Close                    2               4
  *
  * MoveTo (1,1) is 0A 00 01 00 00 00 80 3F 00 00 80 3F; Close is 02 00 05 00. The first record is a
- * MoveTo. An empty list is a valid, empty path. MoveTo and the end close an open subpath. Drawing
- * after Close goes on from the closed subpath's start.
+ * MoveTo. A list of no bytes is accepted and draws nothing. A subpath that is still open is closed
+ * by the next MoveTo, or by the end. Behind a Close the pen goes on from where the subpath started.
  *
- * A point (x, y) becomes x' = (x*xx + y*yx) + tx, y' = (x*xy + y*yy) + ty, each product and sum
- * rounded once, in that order; then the offset is added. Both parts must then be finite and, times
- * 256 and cut toward zero, lie from -524288 to 524288: 2048.0 passes, 2048.00390625 does not. This
- * is the point rule. Coordinates count pixels: pixel (0, 0) is the square from (0,0) to (1,1).
+ * A point (x, y) becomes x' = (x*xx + y*yx) + tx, y' = (x*xy + y*yy) + ty, every product and every
+ * sum rounded to a float, and is moved by the offset. Both parts must then be finite and, times 256
+ * and cut toward zero, at most 524288 either way: 2048.0 passes and 2048.00390625 fails. This is
+ * the point rule. Coordinates count pixels: pixel (0, 0) is the square from (0,0) to (1,1).
  *
  *
  * Refusals
  * --------
  * Every function answers with a number, 0 or a refusal's, and an index: that of the record at
- * fault, counted from 0, and 0 where no record is at fault. Checks 1 to 7 run in this order. Then
- * come the records, front to back, the first faulty one deciding; within a record the order is:
- * header cut (8), 9, 10, body cut (8), 11, 12. Only then is anything drawn, so 13 comes last.
+ * fault, counted from 0, or 0 where it is none's. 1 to 7 are asked first, in this order. Then each
+ * record is judged, from the first on, up to one that is refused: a cut header (8), 9, 10, a cut
+ * body (8), 11, 12. A list must be judged to its end before it is drawn, so 13 comes last.
  * rows stands for end - first.
  *
- *     no.  refused exactly when
+ *     no.  exactly when
  *       1  width or height is above 2,048
  *       2  first > end, or end > height
  *       3  pitch is below width or above 65,536
  *       4  rows > 0 and the mask is shorter than pitch*(rows - 1) + width
  *       5  the workspace has fewer words than rows
- *       6  a transform entry or an offset part is NaN or infinite
+ *       6  a number of the transform or of the offset is NaN or infinite
  *       7  the list is longer than 65,536 bytes
  *       8  a record is cut: 1 to 3 bytes are left, or its body passes the end of the list
  *       9  a kind is not 1 to 5
  *      10  a length is not the kind's
- *      11  the first record is not MoveTo
- *      12  a point fails the point rule
- *      13  the drawing stores more distinct places (column, row) than the pool holds
+ *      11  the list begins with another record than a MoveTo
+ *      12  the point rule refuses a point
+ *      13  the distinct places (column, row) that are stored outnumber the pool's
  *
  *
  * What is asked of the caller
@@ -166,8 +166,8 @@ typedef struct MzPlacement {
  * transform         applied to every point
  * offset_x, _y      added to every transformed point
  * even_odd          the fill rule: even-odd if true, nonzero if false
- * up                false: path row y stands at y - first from the mask's top, y pointing down;
- *                   true: it stands there counted from the mask's bottom row, y pointing up
+ * up                false: the mask's top row shows the path row first, y pointing down;
+ *                   true: its bottom row does, y pointing up
  * width, height     of the whole label, in pixels, 0 allowed
  * pitch             bytes from one mask row to the next
  * first, end        the band; the mask's first byte belongs to the band, not to the label
@@ -224,11 +224,11 @@ MzBounds mz_bounds(const uint8_t *list, size_t list_len, MzTransform transform);
  * Where a list's label belongs, and how to draw it into a mask that just holds it.
  *
  * The offset is added to the box of mz_bounds, its minimum is rounded down to whole pixels and its
- * maximum up. width and height are the differences; the new offset is the negated minimum; left is
- * the minimum's x; top is its y, plus the height if bottom_left is true.
+ * maximum up. width and height are the sides of this box; left and top are its minimum, and if
+ * bottom_left is true the height is added to top; the new offset is the minimum, negated.
  *
- * Refuses with 6 to 12, the point rule judging the points with the offset added. For an empty list
- * the box is (0,0) to (0,0), and 12 with index 0 says that the offset itself fails the point rule.
+ * Refuses with 6 to 12, the point rule judging the points with the offset added. An empty list has
+ * the box of mz_bounds, and 12 with index 0 says that the offset itself fails the point rule.
  * A placement can be larger than a drawing may be, up to 4098 x 4098: mz_draw then says 1.
  *
  * To draw what was placed, call mz_draw with width and height from here and the offset (offset_x,

@@ -1,7 +1,7 @@
 /*
  * The C face, called as a C or a C++ program calls it: K1, K8, K11, K12 and every refusal of
- * document 01, at once and in bands. Prints what differs; exits non-zero if anything does. `run`
- * builds it both ways.
+ * the rules (docs/RULES.md), at once and in bands. Prints what differs; exits non-zero if anything
+ * does. `run` builds it both ways.
  */
 
 #include "../mosszephyr.h"

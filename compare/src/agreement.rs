@@ -35,7 +35,7 @@ fn assert_runs_paint_the_mask(plain: &Label, mask: &[u8]) {
     assert_eq!(by_runs, mask, "{plain:?}");
 }
 
-/// The cells that the oracle gathers are zeno's: painted by document 01's rule they give zeno's
+/// The cells that the oracle gathers are zeno's: painted by the rules they give zeno's
 /// mask, and zeno's runs give it too. Over every seventh small path, both rules.
 #[test]
 fn small_labels_paint_the_same_by_cells_and_by_zeno() {

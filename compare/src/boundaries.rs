@@ -1,5 +1,6 @@
-//! Every boundary and every refusal of document 01 as a call, with the number and the index that its
-//! text gives, written down by hand. The tests hold the reading to this table, the program the port.
+//! Every boundary and every refusal of the rules (docs/RULES.md) as a call, with the number and the
+//! index that they give, written down by hand. The tests hold the reading to this table, the
+//! program the port.
 
 mod lists;
 mod orders;

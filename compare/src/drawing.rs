@@ -19,8 +19,7 @@ use crate::numbers::{Dice, Palette};
 use crate::oracle::{Command, Fill, Point, Transform};
 use crate::paths::{damaged, Character};
 
-/// "A drawing takes list, transform, offset, fill rule, up or down, width, height, pitch, band
-/// [first, end), mask and workspace."
+/// All that a drawing is lent and told; the band is [first, end).
 #[derive(Clone, Debug)]
 pub struct Drawing {
     pub list: Vec<u8>,
@@ -78,7 +77,7 @@ impl Drawing {
         self.words = old::words(rows + 4 * places.min(16_384 + 3));
     }
 
-    /// How many bytes a mask must have: "pitch·(rows−1) + width", none for no rows.
+    /// How many bytes a mask must have: pitch·(rows−1) + width, none for no rows.
     pub fn bytes_needed(&self) -> usize {
         let before_last = self.rows().checked_sub(1);
         before_last.map_or(0, |rows| rows * self.pitch + self.width)

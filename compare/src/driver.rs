@@ -91,8 +91,7 @@ fn cells_of_band(cells: Vec<CellAt>, first: usize, end: usize) -> Vec<CellAt> {
         .collect()
 }
 
-/// The outcome of a call: "path row y stands at y − first from the top, or from the bottom when up".
-/// "All but 13 leave the workspace unchanged too. After 0 or 13 all its words are zero."
+/// The outcome of a call. The words are zero after 0 and 13, and as they were after another number.
 pub fn outcome(drawing: &Drawing) -> Outcome {
     outcome_in(drawing, Way::AtOnce)
 }

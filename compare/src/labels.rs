@@ -1,5 +1,5 @@
-//! Document 01's "Labels to try", K1 to K12, and other cases at the edge of its rules, held against
-//! the reading, the driver and zeno.
+//! "Labels to try" of docs/RULES.md, K1 to K12, and other cases at the edge of the rules, held
+//! against the reading, the driver and zeno.
 
 use crate::boundaries::{closed, rectangle};
 use crate::drawing::Drawing;

@@ -10,8 +10,8 @@
 //! | `paths` | paths of every character, exhaustive small ones, text, large ones, damaged lists |
 //! | `drawing` | one call of a drawing; calls drawn from the dice, at boundaries, at limits, in bands, wild ones |
 //! | `placing` | one call of bounds or of a placement, and such calls drawn from the dice |
-//! | `boundaries` | every boundary and refusal of document 01 as a table written by hand |
-//! | `reading` | document 01's refusals, boxes, placements and pixels, read independently |
+//! | `boundaries` | every boundary and refusal of docs/RULES.md as a table written by hand |
+//! | `reading` | the rules' refusals, boxes, placements and pixels, read independently |
 //! | `driver` | what a call must leave behind, by the reading and zeno together |
 //! | `pool` | the cells in the words of a workspace |
 //! | `lent` | what is lent to the port, between marks |
@@ -19,7 +19,7 @@
 //! | `shrink` | a smaller form of a case that differs |
 //! | `flags` | a command's flags |
 
-// Decimals are written as document 01 has them, exactly.
+// Decimals are written as docs/RULES.md has them, exactly.
 #![allow(clippy::excessive_precision)]
 
 pub mod boundaries;

@@ -1,5 +1,5 @@
-//! Path lists as document 01 writes them: a 2-byte length that counts the bytes after itself, a
-//! 2-byte kind, then the coordinates, all little-endian.
+//! Path lists as docs/RULES.md has them: records of two bytes of length, in which these two are not
+//! counted, two bytes of kind and the coordinates, each with its lowest byte first.
 
 mod shown;
 mod simpler;
@@ -43,9 +43,9 @@ pub fn parts(command: &Command) -> (u16, Vec<Point>) {
 mod tests {
     use super::*;
 
-    /// The two records that document 01 spells out.
+    /// The two records that docs/RULES.md spells out.
     #[test]
-    fn records_are_the_documents_bytes() {
+    fn records_are_the_bytes_of_the_rules() {
         let move_to = [0x0A, 0, 1, 0, 0, 0, 0x80, 0x3F, 0, 0, 0x80, 0x3F];
         assert_eq!(record(&Command::MoveTo(Point::new(1.0, 1.0))), move_to);
         assert_eq!(record(&Command::Close), [2, 0, 5, 0]);

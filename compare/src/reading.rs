@@ -1,6 +1,6 @@
-//! Document 01 read once more, in plain Rust and independently of every other program: what is
-//! refused with which number and index, which box points have, which byte a pixel gets. It shares
-//! the types of `oracle` and none of its arithmetic.
+//! The rules (docs/RULES.md) read once more, in plain Rust and independently of every other
+//! program: what is refused with which number and index, which box points have, which byte a pixel
+//! gets. It shares the types of `oracle` and none of its arithmetic.
 
 mod boxes;
 mod pixels;

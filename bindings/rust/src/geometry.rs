@@ -33,8 +33,8 @@ impl From<[f32; 2]> for Point {
     }
 }
 
-/// Sends (x, y) to ((x · xx + y · yx) + tx, (x · xy + y · yy) + ty), each product and sum rounded
-/// once, in that order; the fields `x` and `y` are tx and ty.
+/// Sends (x, y) to ((x · xx + y · yx) + tx, (x · xy + y · yy) + ty), every product and every sum
+/// rounded to a float; the fields `x` and `y` are tx and ty.
 ///
 /// Transforms are built by chaining:
 ///
@@ -173,8 +173,8 @@ pub fn bounds(path: &Path, transform: Transform) -> Result<Bounds, Refusal> {
 /// Where a path's label belongs, and how to draw it into a mask that just holds it.
 ///
 /// The offset is added to the path's box, its minimum is rounded down to whole pixels and its
-/// maximum up. Width and height are the differences, the new offset is the negated minimum, left is
-/// the minimum's x, and top is its y, plus the height for [`Origin::BottomLeft`].
+/// maximum up. Width and height are the sides of this box; left and top are its minimum, and for
+/// [`Origin::BottomLeft`] the height is added to top; the new offset is the minimum, negated.
 ///
 /// To draw what was placed, use the width, the height and the new offset; where the path was placed
 /// with an offset of its own, the sum of both.

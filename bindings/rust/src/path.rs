@@ -4,8 +4,8 @@ use crate::Point;
 
 /// A path as the bytes of its list.
 ///
-/// A record is a 2-byte length, a 2-byte kind, then coordinates, all little-endian. The length
-/// counts the bytes after itself. A coordinate is an IEEE 754 binary32 number, x before y.
+/// A record has two bytes of length, in which these two are not counted, two bytes of kind and the
+/// coordinates, x before y, four bytes each: IEEE 754 binary32. The lowest byte comes first.
 ///
 /// | kind | command | length |
 /// |---|---|---|
@@ -16,8 +16,9 @@ use crate::Point;
 /// | 5 | Close | 2 |
 ///
 /// A path may hold any bytes; they are judged when it is drawn, bounded or placed. The first record
-/// must be a MoveTo, and the list may have 65,536 bytes. An empty path is valid. MoveTo and the end
-/// close an open subpath; drawing after Close goes on from the closed subpath's start.
+/// must be a MoveTo, and the list may have 65,536 bytes. An empty path is valid. A subpath that is
+/// still open is closed by the next MoveTo, or by the end; behind a Close the pen goes on from
+/// where the subpath started.
 ///
 /// ```
 /// use mosszephyr::Path;

@@ -5,26 +5,26 @@ use std::fmt;
 
 /// A refusal: its number, the record at fault, and words for people.
 ///
-/// | No. | Refused exactly when |
+/// | No. | Exactly when |
 /// |---|---|
 /// | 1 | width or height is above 2,048 |
 /// | 2 | the band's start is above its end, or its end above height |
 /// | 3 | pitch is below width or above 65,536 |
 /// | 4 | the band has rows and the mask is shorter than pitch · (rows − 1) + width |
 /// | 5 | the workspace has fewer words than the band has rows |
-/// | 6 | a transform entry or an offset part is NaN or infinite |
+/// | 6 | a number of the transform or of the offset is NaN or infinite |
 /// | 7 | the list is longer than 65,536 bytes |
 /// | 8 | a record is cut: 1 to 3 bytes are left, or its body passes the end |
 /// | 9 | a kind is not 1 to 5 |
 /// | 10 | a length is not the kind's |
-/// | 11 | the first record is not MoveTo |
-/// | 12 | a point fails the point rule |
-/// | 13 | the drawing stores more distinct places (column, row) than the pool holds |
+/// | 11 | the list begins with another record than a MoveTo |
+/// | 12 | the point rule refuses a point |
+/// | 13 | the distinct places (column, row) that are stored outnumber the pool's |
 ///
 /// The point rule: transformed and moved by the offset, both parts are finite and, times 256 and
-/// cut toward zero, lie from −524,288 to 524,288. 2048.0 passes, 2048.00390625 does not.
+/// cut toward zero, at most 524,288 either way: 2048.0 passes and 2048.00390625 fails.
 ///
-/// 1 to 7 are judged in this order; then the records, front to back, the first faulty one deciding;
+/// 1 to 7 are judged in this order; then each record, from the first on, up to one that is refused;
 /// 13 comes last. [`draw_band`](crate::draw_band) and [`draw_in_bands`](crate::draw_in_bands) judge
 /// all of them, the latter 13 for each of its bands; [`draw`](crate::draw) lends what 2, 4 and 5 ask
 /// for; [`bounds`](crate::bounds) and [`placement`](crate::placement) judge 6 to 12.
@@ -72,7 +72,7 @@ impl Refusal {
     pub const MASK: u32 = 4;
     /// 5: fewer words than rows.
     pub const WORKSPACE: u32 = 5;
-    /// 6: a transform entry or offset part that is NaN or infinite.
+    /// 6: a transform or an offset with a number that is not finite.
     pub const FLOAT: u32 = 6;
     /// 7: a list longer than 65,536 bytes.
     pub const LIST: u32 = 7;

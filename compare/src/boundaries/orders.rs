@@ -48,7 +48,7 @@ fn spoil(drawing: &mut Drawing, number: u8) {
     }
 }
 
-/// "Within a record: header cut, 9, 10, body cut, 11, 12."
+/// The order in one record: a cut header, 9, 10, a cut body, 11, 12.
 fn within_a_record(rows: &mut Rows) {
     let mut first = |what: &str, number: u8, list: &[u8]| {
         let mut drawing = k1();
@@ -70,7 +70,7 @@ fn within_a_record(rows: &mut Rows) {
     first("11 before a later 9", 11, &late);
 }
 
-/// "The first faulty one deciding", whichever numbers the two records have.
+/// Of two faulty records the first is told, whichever numbers they have.
 fn front_to_back(rows: &mut Rows) {
     let origin = Point::new(0.0, 0.0);
     let far = Point::new(3000.0, 0.0);

@@ -174,7 +174,8 @@ fn pools(rows: &mut Rows) {
     }
 }
 
-/// "At most 16,384": four bars of 2,048 rows take two places a row each, a last MoveTo one more.
+/// The largest pool, 16,384: four bars of 2,048 rows take two places a row each, a last MoveTo one
+/// more.
 fn the_cap(rows: &mut Rows) {
     let bar = |n: usize| rectangle(8.0 * n as f32, 0.0, 8.0 * n as f32 + 4.0, 2048.0);
     let path: Vec<Command> = (0..4).flat_map(bar).collect();

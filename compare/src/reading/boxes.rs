@@ -4,7 +4,7 @@ use crate::oracle::{Bounds, Point};
 
 /// The box of points given as x, y, x, y and so on; an odd last number is left out, and no point
 /// at all gives zeros. On each axis the box starts at the first point and is moved by what lies
-/// truly outside it: "ties keep the first".
+/// truly outside it, so that of equal parts the first stays.
 pub fn box_of(numbers: &[f32]) -> Bounds {
     let axis = |from: usize| -> Vec<f32> {
         let points = numbers.chunks_exact(2);

@@ -1,9 +1,9 @@
-//! "From cells to a byte".
+//! docs/RULES.md, "From cells to a byte".
 
 use crate::oracle::{CellAt, Fill};
 
-/// "Then v shifted right 9, rounding down. Nonzero: below 0 becomes −v − 1, then at most 255.
-/// Even-odd: remainder 512; from 256 on, 511 minus it."
+/// The byte of v / 512, rounded down. Nonzero: mirrored below 0, where −1 gives 0, 255 at most;
+/// even-odd: up from 0 to 255 and back, again and again.
 pub fn byte_of(v: i32, fill: Fill) -> u8 {
     let v = i64::from(v).div_euclid(512);
     let byte = match fill {
@@ -17,8 +17,8 @@ pub fn byte_of(v: i32, fill: Fill) -> u8 {
     byte as u8
 }
 
-/// The mask of a whole label, pitch its width and up false, from its cells: "Pixel x: v =
-/// 512·(cover of this row's cells up to x) − area at x, wrapping".
+/// The mask of a whole label, pitch its width and up false, from its cells: v is
+/// 512·cover − area, wrapping, with the cover of the row's cells as far as x and the area at x.
 pub fn mask_of(cells: &[CellAt], fill: Fill, width: usize, height: usize) -> Vec<u8> {
     let mut mask = Vec::with_capacity(width * height);
     let mut rest = cells;

@@ -1,5 +1,5 @@
-//! "A record is a 2-byte length, a 2-byte kind, then coordinates, all little-endian. The length
-//! counts the bytes after itself."
+//! Records: two bytes of length, in which these two are not counted, two bytes of kind, and the
+//! coordinates; the lowest byte comes first.
 
 use crate::oracle::{Command, Point};
 
@@ -16,7 +16,7 @@ pub enum Record {
 /// The length that each kind must have, kinds 1 to 5.
 pub const LENGTHS: [usize; 5] = [10, 10, 18, 26, 2];
 
-/// Reads one record; "within a record: header cut, 9, 10, body cut".
+/// Reads one record. The order: a cut header, 9, 10, a cut body.
 pub fn record_at(rest: &[u8]) -> Record {
     if rest.is_empty() {
         return Record::End;
@@ -46,7 +46,7 @@ pub fn record_at(rest: &[u8]) -> Record {
     Record::Command(command, 2 + length)
 }
 
-/// "32-bit floats, x before y, IEEE 754 binary32 bits."
+/// A point from eight bytes, x from the first four and y from the others, as IEEE 754 binary32.
 fn point_at(body: &[u8]) -> Point {
     let part = |at: usize| f32::from_le_bytes([body[at], body[at + 1], body[at + 2], body[at + 3]]);
     Point::new(part(0), part(4))

@@ -1,4 +1,4 @@
-//! "When a label is turned away": the table of refusals with its order.
+//! docs/RULES.md, "When a label is turned away": the table of refusals with its order.
 
 use super::records::{record_at, Record};
 use crate::drawing::Drawing;
@@ -31,15 +31,15 @@ pub fn judge(drawing: &Drawing) -> Result<Accepted, Refusal> {
     judge_list(&drawing.list, &drawing.transform, drawing.offset)
 }
 
-/// Refusals 6 to 12 of bounds, "with offset zero".
+/// Refusals 6 to 12 of bounds, as for an offset of zero.
 pub fn judge_bounds(bytes: &[u8], transform: &Transform) -> Result<Accepted, Refusal> {
     let zero = Point::new(0.0, 0.0);
     judge_floats(transform, zero)?;
     judge_list(bytes, transform, zero)
 }
 
-/// Refusals 6 to 12 of a placement. "For an empty list .. the offset alone must pass the point
-/// rule, else 12 with index 0."
+/// Refusals 6 to 12 of a placement. An empty list is 12 with index 0 where the offset by itself
+/// fails the point rule.
 pub fn judge_placement(
     bytes: &[u8],
     transform: &Transform,
@@ -52,12 +52,12 @@ pub fn judge_placement(
     judge_list(bytes, transform, offset)
 }
 
-/// "Pool size = (words − rows) / 4 rounded down, at most 16,384." Asked only past refusal 5.
+/// How many places the pool has: (words − rows) / 4, `PLACES` at most. Asked only past refusal 5.
 pub fn pool(words: usize, rows: usize) -> usize {
     ((words - rows) / 4).min(PLACES)
 }
 
-/// 13: "the drawing stores more distinct places (column, row) than the pool holds".
+/// 13: the distinct places of a drawing outnumber the pool.
 pub fn judge_room(places: usize, words: usize, rows: usize) -> Result<(), Refusal> {
     if places > pool(words, rows) {
         return refused(13, 0);
@@ -65,7 +65,8 @@ pub fn judge_room(places: usize, words: usize, rows: usize) -> Result<(), Refusa
     Ok(())
 }
 
-/// "Both parts finite, and each part times 256, cut toward zero, from −524,288 to 524,288."
+/// The point rule: each part is finite and, times 256 and cut toward zero, at most 524,288
+/// either way.
 pub fn passes_point_rule(point: Point) -> bool {
     [point.x, point.y].iter().all(|&part| {
         // 256 times a binary32 is exact in binary64.
@@ -98,7 +99,7 @@ fn judge_sizes(d: &Drawing) -> Result<(), Refusal> {
     Ok(())
 }
 
-/// 6: "a transform entry or offset part is NaN or infinite".
+/// 6: a number of the transform or of the offset is not finite.
 fn judge_floats(t: &Transform, offset: Point) -> Result<(), Refusal> {
     let parts = [t.xx, t.xy, t.yx, t.yy, t.x, t.y, offset.x, offset.y];
     if parts.iter().all(|part| part.is_finite()) {
@@ -107,7 +108,7 @@ fn judge_floats(t: &Transform, offset: Point) -> Result<(), Refusal> {
     refused(6, 0)
 }
 
-/// 7, then "the records, front to back, the first faulty one deciding".
+/// 7, then the records in their order, up to one that is refused.
 fn judge_list(bytes: &[u8], transform: &Transform, offset: Point) -> Result<Accepted, Refusal> {
     if bytes.len() > MOST {
         return refused(7, 0);
@@ -148,8 +149,7 @@ fn judge_command(
     refused(12, index)
 }
 
-/// "x' = (x·xx + y·yx) + tx, y' = (x·xy + y·yy) + ty, with each product and sum rounded once, in
-/// that order. Then the offset is added."
+/// The transformed point, each operation rounding by itself, and then moved by the offset.
 fn moved(p: Point, t: &Transform, offset: Point) -> Point {
     let x = (p.x * t.xx + p.y * t.yx) + t.x;
     let y = (p.x * t.xy + p.y * t.yy) + t.y;

@@ -1,4 +1,4 @@
--- A label drawn in bands: document 01's drawing, but 13 is asked of each band by itself.
+-- A label drawn in bands: the drawing of docs/RULES.md, but 13 is asked of each band by itself.
 use Prim.Native.Nat.{ℕ, zero, suc, _+_, min, max}
 use mathlib.Core.Path.{_≡_}
 use mathlib.Core.Bool.{Bool, true, false, _||_}

@@ -15,7 +15,7 @@ use Rattle.label.specs.Checks.{mostPitch, rows}
 use Rattle.label.specs.Draw.{Outcome, numbersOf, logOf, drawOf}
 use Rattle.claims.specs.OldContents.{spotOf}
 
--- the band [first, end) of a label; the whole label is band [0, height)
+-- the band [first, end) of a label, all of which is [0, height)
 abbrev pub bandOf : Label → ℕ → ℕ → Label
 bandOf l first end = record {
   transform = l .transform;

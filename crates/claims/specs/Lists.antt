@@ -128,7 +128,7 @@ pub data Told : Type 0 where
   -- a refusal's number and index: mask and words are as they were
   turned : ℕ → ℕ → Told
 
--- the answer in the paper's numbers, the mask and the words after it
+-- the answer in the rules' numbers, the mask and the words after it
 pub record Seen : Type 0 where
   pub answer : Numbers
   pub mask : List ℕ

@@ -1,5 +1,5 @@
--- Document 01, "How much must be pinned": "Neither old mask bytes nor old workspace words may influence an answer, a written byte or a count", and
--- "Lent bytes and words that no rule names stay as they were". Of a rule of drawing, such as `drawOf`, for every label, list, mask and workspace.
+-- docs/RULES.md, "What a call leaves": old bytes and old words have no say in an answer, a count or a written byte, and
+-- what no rule names is kept. Of a rule of drawing, such as `drawOf`, for every label, list, mask and workspace.
 use Prim.Native.Nat.{ℕ, _+_, _*_, _<_}
 use mathlib.Core.Path.{_≡_}
 use mathlib.Core.Bool.{Bool, true, false, cond}
@@ -28,7 +28,7 @@ wipes (Refused why index) = eqb (numberOf why) 13
 
 -- ---- the words
 
--- "all but 13 leave the workspace unchanged too. After 0 or 13 all its words are zero"
+-- 0 and 13 leave zeros, every other refusal leaves the words as they were
 abbrev pub wordsAfter : Answer → List ℕ → List ℕ
 wordsAfter a words = cond (wipes a) (replicate (length words) 0) words
 
@@ -49,7 +49,7 @@ OldWords draw = (l : Label) (s mask words words′ : List ℕ) → length words 
 abbrev pub spotOf : Label → ℕ → ℕ → ℕ
 spotOf l y x = l .pitch * y + x
 
--- "Refusals leave the mask unchanged"; "Acceptance writes width bytes in each band row and no others"
+-- no refusal changes the mask; acceptance changes no byte but the `width` first ones of a band row's line
 pub record MaskAfter (l : Label) (mask : List ℕ) (o : Outcome) : Type 0 where
   pub long : length (o .mask) ≡ length mask
   pub refused : accepts (o .answer) ≡ false → o .mask ≡ mask

@@ -1,4 +1,4 @@
--- Document 01, "Labels to try": K1 to K12 in one table, each entry computed from the rules.
+-- docs/RULES.md, "Labels to try": K1 to K12 in one table, each entry computed from the rules.
 use mathlib.Core.Path.{_≡_, refl}
 use mathlib.Core.List.{[], _∷_, _++_}
 use lib.Ieee.{ofBits}

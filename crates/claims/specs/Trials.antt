@@ -1,4 +1,4 @@
--- Document 01, "Labels to try", the boundaries; curves, bands and every refusal, computed from the rules as K1 to K12 are.
+-- docs/RULES.md, "Labels to try", the boundaries; curves, bands and every refusal, computed as K1 to K12 are.
 use mathlib.Core.Path.{_≡_, refl}
 use mathlib.Core.Bool.{true, false}
 use mathlib.Core.List.{List, [], _∷_, _++_}
@@ -41,18 +41,18 @@ cancelling =
     ++ move n0·25 n0·75 ++ line n0·75 n0·25 ++ line n0·25 n0·25 ++ close
 
 pub record Trials : Type 0 where
-  -- ---- the paper's boundaries
-  -- 2,048 wide passes, 2,049 is 1
+  -- ---- the boundaries that "Labels to try" names
+  -- a width of 2,048 passes, one of 2,049 is 1
   pub wide : Draws (label 2048 0) [] 0 0 (drawn 0 0 [])
   pub too-wide : Draws (label 2049 0) [] 0 40 (turned 1 0)
-  -- pitch 3 for width 4 is 3
+  -- a width of 4 at pitch 3 is 3
   pub low-pitch : Draws (banded NonZero false 4 3 3 0 3) rectangle 12 40 (turned 3 0)
-  -- pitch 4, 3 rows, width 4: 11 mask bytes is 4, 12 pass
+  -- three rows of 4 at pitch 4 take a mask of 12 bytes: 11 are refused, 4
   pub short-mask : Draws (label 4 3) rectangle 11 40 (turned 4 0)
   pub whole-mask : Draws (label 4 3) rectangle 12 40 (drawn 5 2 inked)
-  -- Close first is 11
+  -- a list that begins with Close is 11
   pub close-first : Draws (label 1 1) close 1 40 (turned 11 0)
-  -- a list of 1, 2 or 3 bytes is 8
+  -- a byte, two or three are no record: 8
   pub one-byte : Draws (label 1 1) (0x0A ∷ []) 1 40 (turned 8 0)
   pub two-bytes : Draws (label 1 1) (0x0A ∷ 0x00 ∷ []) 1 40 (turned 8 0)
   pub three-bytes : Draws (label 1 1) (0x0A ∷ 0x00 ∷ 0x01 ∷ []) 1 40 (turned 8 0)

@@ -1,4 +1,4 @@
--- Document 01, "The path list", its commands: MoveTo p, LineTo p, QuadTo c p, CurveTo c1 c2 p, Close.
+-- docs/RULES.md, "The path list", its commands: MoveTo p, LineTo p, QuadTo c p, CurveTo c1 c2 p, Close.
 use mathlib.Core.Bool.{Bool, true, false}
 use mathlib.Core.List.{List, [], _∷_}
 use Rattle.geometry.specs.declared.Point.{Point}

@@ -1,4 +1,4 @@
--- Document 01, "Lines, curves, cells": the points to which a cubic's lines go, and the marks that they make.
+-- docs/RULES.md, "Lines, curves, cells": the points to which a cubic's lines go, and the marks that they make.
 use Prim.Native.Nat.{ℕ, zero, suc, _+_, _*_}
 use mathlib.Core.Bool.{Bool, true, false, cond, _&&_, _||_}
 use mathlib.Core.List.{List, [], _∷_}
@@ -25,11 +25,11 @@ cubicOf l = record { p0 = pointOf l 0; p1 = pointOf l 1; p2 = pointOf l 2; p3 = 
 abbrev pub far : ℕ → ℕ → Bool
 far a b = ltb 128 (apart a b)
 
--- A cubic splits while |2p0 − 3p1 + p3| or |p0 − 3p2 + 2p3| exceeds 128 ..
+-- not nearly straight along one axis: |2p0 − 3p1 + p3| or |p0 − 3p2 + 2p3| is above 128
 unfoldable pub bent : ℕ → ℕ → ℕ → ℕ → Bool
 bent p0 p1 p2 p3 = far (2 * p0 + p3) (3 * p1) || far (p0 + 2 * p3) (3 * p2)
 
--- .. on either axis
+-- along x or along y
 unfoldable pub curved : Cubic → Bool
 unfolding bent
 curved k = bent (k .p0 .x) (k .p1 .x) (k .p2 .x) (k .p3 .x) || bent (k .p0 .y) (k .p1 .y) (k .p2 .y) (k .p3 .y)
@@ -41,9 +41,9 @@ startHalf k = record { p0 = mid8 (k .p0) (k .p1) (k .p2) (k .p3); p1 = mid4 (k .
 abbrev pub endHalf : Cubic → Cubic
 endHalf k = record { p0 = k .p0; p1 = mid (k .p0) (k .p1); p2 = mid4 (k .p0) (k .p1) (k .p2); p3 = mid8 (k .p0) (k .p1) (k .p2) (k .p3) }
 
--- A cubic splits while it is curved, and the start's half comes before the end's: k is at hand and ks wait, the next one first.
--- Its stack has 129 places, four for k and three for each that waits, so that 7 are left for a split while 40 or fewer wait;
--- with fewer than 7 left, one line goes to the curve's end and it is done.
+-- A curved cubic is split, and the start's half comes before the end's: k is at hand and ks wait, the next one first.
+-- The stack has 129 places, four for k and three for each that waits: 7 are left for a split while 40 or fewer wait.
+-- Where fewer are left, a single line to the end of the whole curve is the last one.
 -- n only bounds the steps: 1024 suffice, and the stack is never that full, for every curve in reach (proofs/Run.antt, `never-stuck`).
 unfoldable pub cubicFrom : ℕ → FixedPoint → Cubic → List Cubic → List FixedPoint
 unfolding curved
@@ -63,14 +63,14 @@ unfoldable pub cubicPoints : FixedPoint → FixedPoint → FixedPoint → FixedP
 unfolding cubicFrom
 cubicPoints a c d b = cubicFrom 1024 b (cubic a c d b) []
 
--- every point past one band edge, as for lines
+-- every point past the band, and every point before it
 abbrev pub allPast : Frame → FixedPoint → FixedPoint → FixedPoint → FixedPoint → Bool
 allPast f a c d b = past f (a .y) && past f (c .y) && past f (d .y) && past f (b .y)
 
 abbrev pub allAhead : Frame → FixedPoint → FixedPoint → FixedPoint → FixedPoint → Bool
 allAhead f a c d b = ahead f (a .y) && ahead f (c .y) && ahead f (d .y) && ahead f (b .y)
 
--- Curves with every point past one band edge, as for lines, only move the pen point.
+-- A curve whose points are all past the band, or all before it, makes no marks; the pen point moves to its end.
 unfoldable pub cubicMarks : Frame → FixedPoint → FixedPoint → FixedPoint → FixedPoint → List Mark
 unfolding along cubicPoints
 cubicMarks f a c d b = cond (allPast f a c d b || allAhead f a c d b) [] (along f a (cubicPoints a c d b))

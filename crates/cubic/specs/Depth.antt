@@ -13,7 +13,7 @@ pub data Flat : ℕ → Cubic → Type 0 where
   flat : {n : ℕ} {k : Cubic} → curved k ≡ false → Flat n k
   split : {n : ℕ} {k : Cubic} → Flat n (startHalf k) → Flat n (endHalf k) → Flat (suc n) k
 
--- a curve is split by calling itself on its two halves, the start before the end, n deep
+-- a curve's points are those of its two halves, the start's before the end's, n deep
 unfoldable pub halves : ℕ → Cubic → List FixedPoint
 unfolding curved
 halves zero k = k .p0 ∷ []

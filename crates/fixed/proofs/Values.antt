@@ -83,7 +83,7 @@ pub fixed-value : (s : Bool) (m : ℕ) (e : ℤ) (n : ℕ) (c : Bool) → toFixe
 unfolding toFixed
 fixed-value s m e n c h = limited s (m * up e * 256 / down e) (not (eqb (m * up e * 256 % down e) 0)) n c h ∙ toward-zero s (m * up e * 256) (down e)
 
--- ---- cell = number / 256 rounded down, fraction = the rest
+-- ---- a cell is a quotient by 256, its fraction what is left
 pub cell-value : (n : ℕ) → shrZ (valueOf n) 256 ≡ subℕ (cell n) 8192
 unfolding _⊖_
 cell-value n = ap (λ (z : ℤ). shrZ z 256) (value-is n) ∙ ⊖-shr n 8192 256 (lit≤ tt)
@@ -99,7 +99,7 @@ fraction-value n =
     ∙ ap (λ (k : ℤ). k +ℤ (fraction n ⊖ 0)) (sym (⊖-mul 256 (cell n) 8192))
     ∙ ap (λ (k : ℤ). pos 256 *ℤ (cell n ⊖ 8192) +ℤ k) (sym z)
 
--- ---- each split point is one sum, divided once, rounding down
+-- ---- a split point is a sum, rounded down at its one division
 pub half-value : (a b : ℕ) → valueOf ((a + b) / 2) ≡ shrZ (valueOf a +ℤ valueOf b) 2
 half-value a b =
     rw (value-is ((a + b) / 2), value-is a, value-is b, ⊖-add a bias b bias) (sym (⊖-shr (a + b) bias 2 (lit≤ tt)))

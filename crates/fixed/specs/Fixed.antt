@@ -1,4 +1,4 @@
--- Document 01, "From floats to 24.8 numbers": the point rule, and the cell and the fraction of a number.
+-- docs/RULES.md, "From floats to 24.8 numbers": the point rule, and the cell and the fraction of a number.
 -- A number z is held as z + `bias`, which is not below zero.
 use Prim.Native.Nat.{ℕ, _+_, _-_, _*_, _/_, _%_}
 use mathlib.Core.Bool.{Bool, true, false, not, cond}
@@ -55,7 +55,7 @@ unfoldable pub spotOf : Point → Spot
 unfolding toFixed spotFrom
 spotOf p = spotFrom (toFixed (p .x)) (toFixed (p .y))
 
--- Cell = number / 256 rounded down, fraction = the rest. The cell is held with bias / 256 = 8192 added.
+-- The cell is the quotient by 256, rounded down, and held with bias / 256 = 8192 added; the fraction is what remains.
 abbrev pub cell : ℕ → ℕ
 cell n = n / 256
 

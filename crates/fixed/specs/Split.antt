@@ -1,4 +1,4 @@
--- Document 01, "Lines, curves, cells": how a curve is split. Each split point is one sum, divided once, rounding down.
+-- docs/RULES.md, "Lines, curves, cells": how a curve is split. A split point is a sum, divided last and rounded down.
 -- The weights of a sum add up to its divisor, so the sums of held numbers are those of the numbers, held.
 use Prim.Native.Nat.{ℕ, _+_, _*_, _/_, _≤_, _<_}
 use mathlib.Core.List.{List, [], _∷_}
@@ -32,7 +32,7 @@ splitQuad l =
     ∷ pointOf l 2
     ∷ []
 
--- One split takes four points by value and hands back seven.
+-- four points go in by value, seven come out
 unfoldable pub splitCubic : List FixedPoint → List FixedPoint
 splitCubic l =
     pointOf l 0

@@ -17,14 +17,14 @@ use Rattle.fixed.specs.Split.{splitQuad, splitCubic}
 fixedBits : ℕ → Fix
 fixedBits b = toFixed (ofBits binary32 b)
 
--- 2048.0 passes, 2048.00390625 doesn't; the float before it passes, cut; −2048 passes, −2048.00390625 doesn't
+-- 2048.0 passes and 2048.00390625 fails; the float before it passes, cut; −2048 passes and −2048.00390625 fails
 limits :
     map fixedBits (0x4500_0000 ∷ 0x4500_0010 ∷ 0x4500_000f ∷ 0xc500_0000 ∷ 0xc500_0010 ∷ [])
     ≡ Fixed (above 524288) false ∷ Refused ∷ Fixed (above 524288) true ∷ Fixed (below 524288) false ∷ Refused ∷ []
 unfolding fixedBits ofBits toFixed
 limits = refl
 
--- −0.003 becomes 0 and −0.00390625 becomes −1; 1.5 is 384, 0.1 is 25, −0.1 is −25
+-- −0.003 is cut to 0, −0.00390625 is −1; 1.5 is 384, 0.1 is 25, −0.1 is −25
 toward-zero :
     map fixedBits (0xbb44_9ba6 ∷ 0xbb80_0000 ∷ 0x3fc0_0000 ∷ 0x3dcc_cccd ∷ 0xbdcc_cccd ∷ [])
     ≡ Fixed (above 0) true ∷ Fixed (below 1) false ∷ Fixed (above 384) false ∷ Fixed (above 25) true ∷ Fixed (below 25) true ∷ []

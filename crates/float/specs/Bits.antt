@@ -1,4 +1,4 @@
--- Document 01, "The path list": "32-bit floats .. all little-endian .. IEEE 754 binary32 bits".
+-- docs/RULES.md, "The path list": a coordinate is an IEEE 754 binary32 in four bytes, the lowest first.
 use Prim.Native.Nat.{ℕ, _+_, _*_}
 use lib.Ieee.{Float, binary32, ofBits}
 

@@ -1,4 +1,4 @@
--- A float cut toward zero: the conversion that document 01 takes "from the float's bits". A finite float is m * 2 ^ e, the fraction m * up e / down e.
+-- A float cut toward zero, from its bits. A finite float is m * 2 ^ e, the fraction m * up e / down e.
 use Prim.Native.Nat.{_*_, _/_, _%_, _^_}
 use mathlib.Core.Bool.{Bool, true, false, not}
 use lib.Dec.{ltb, eqb}

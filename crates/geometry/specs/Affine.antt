@@ -1,4 +1,4 @@
--- Document 01, "From floats to 24.8 numbers": points and transforms, "with each product and sum rounded once, in that order".
+-- docs/RULES.md, "From floats to 24.8 numbers": points and transforms. Each product and each sum is rounded, as shown.
 use lib.Ieee.{Float, binary32, ofBits, add, mul}
 use Rattle.float.specs.Cut.{zeroF}
 use Rattle.geometry.specs.declared.Point.{Point}
@@ -49,7 +49,7 @@ abbrev pub scaleOf : Float → Float → Transform
 scaleOf x y = transformOf x zeroF zeroF y zeroF zeroF
 
 -- xx = a.xx·b.xx + a.yx·b.xy, yx = a.xx·b.yx + a.yx·b.yy, xy = a.xy·b.xx + a.yy·b.xy, yy = a.xy·b.yx + a.yy·b.yy,
--- x = a.x·b.xx + a.y·b.xy + b.x, y = a.x·b.yx + a.y·b.yy + b.y, sums from the left
+-- x = a.x·b.xx + a.y·b.xy + b.x, y = a.x·b.yx + a.y·b.yy + b.y, added up from left to right
 abbrev pub combineOf : Transform → Transform → Transform
 combineOf a b = record {
   xx = plus (times (a .xx) (b .xx)) (times (a .yx) (b .xy));
@@ -60,6 +60,6 @@ combineOf a b = record {
   y = plus (plus (times (a .x) (b .yx)) (times (a .y) (b .yy))) (b .y);
 }
 
--- `then_translate` adds to x and y
+-- `then_translate` moves by x and y
 abbrev pub translatedOf : Transform → Float → Float → Transform
 translatedOf t a b = record { xx = t .xx; xy = t .xy; yx = t .yx; yy = t .yy; x = plus (t .x) a; y = plus (t .y) b }

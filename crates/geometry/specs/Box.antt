@@ -1,4 +1,4 @@
--- Document 01, "From floats to 24.8 numbers": the box around points. Zeros of both signs are a tie.
+-- docs/RULES.md, "From floats to 24.8 numbers": the box around points. Zeros of both signs are a tie.
 use mathlib.Core.Bool.{Bool, cond, _&&_, _||_}
 use mathlib.Core.List.{List, [], _∷_}
 use lib.Ieee.{Float, binary32, lt, le, sub}
@@ -14,7 +14,7 @@ boundsOf a b = record { min = a; max = b }
 abbrev pub boxAt : Point → Bounds
 boxAt p = boundsOf p p
 
--- ties keep the first
+-- of equal parts the first stays
 abbrev pub lower : Float → Float → Float
 lower a b = cond (lt b a) b a
 
@@ -33,7 +33,7 @@ unfolding lt
 boxFrom b [] = b
 boxFrom b (p ∷ ps) = boxFrom (around b p) ps
 
--- "For an empty list the box is (0,0) to (0,0)"; else it starts at the first point
+-- without points (0,0) to (0,0); else it starts at the first point
 unfoldable pub boxOf : List Point → Bounds
 unfolding boxFrom
 boxOf [] = boxAt (pointOf zeroF zeroF)

@@ -1,4 +1,4 @@
--- Document 01, "From floats to 24.8 numbers": where the mask of a box lies.
+-- docs/RULES.md, "From floats to 24.8 numbers": where the mask of a box lies.
 use Prim.Native.Nat.{ℕ, _*_, _^_}
 use mathlib.Core.Bool.{Bool, true, false, _&&_}
 use lib.Dec.{ltb}
@@ -14,7 +14,7 @@ use Rattle.geometry.specs.declared.Placed.{Placed}
 use Rattle.geometry.specs.declared.Placed.the-variants.{At, Outside}
 use Rattle.geometry.specs.Affine.{pointOf, shifted}
 
--- "floors the minimum, ceils the maximum .. Width and height are the differences", 0 where the maximum lies below
+-- a side: from the minimum rounded down to the maximum rounded up, 0 where the maximum lies below
 abbrev pub notBelow : ℤ → ℕ
 notBelow (pos n) = n
 notBelow (negsuc n) = 0
@@ -22,12 +22,12 @@ notBelow (negsuc n) = 0
 abbrev pub extent : Float → Float → ℕ
 extent a b = notBelow (ceilZ b -ℤ floorZ a)
 
--- "plus the height for a bottom-left origin"
+-- what the origin adds to the top
 abbrev pub lift : Origin → ℕ → ℤ
 lift TopLeft h = pos 0
 lift BottomLeft h = pos h
 
--- "Left is the minimum's x; top is its y, plus the height"
+-- the rounded minimum says where the mask is, its y lifted by the height from bottom-left
 abbrev pub placementOf : Origin → Point → Point → Placement
 placementOf o a b = record {
   left = floorZ (a .x);
@@ -36,7 +36,7 @@ placementOf o a b = record {
   height = extent (a .y) (b .y);
 }
 
--- "the new offset is the negated minimum (negative zero kept)"
+-- the new offset: the rounded minimum with its signs turned, so that 0 gives −0
 abbrev pub negated : Point → Point
 negated a = pointOf (neg (floorOf (a .x))) (neg (floorOf (a .y)))
 
@@ -57,6 +57,6 @@ pickPlaced false a b = b
 abbrev pub placedBetween : Origin → Point → Point → Placed
 placedBetween o a b = pickPlaced (within a && within b) (At (negated a) (placementOf o a b)) Outside
 
--- "Placement adds the offset"
+-- the box is moved by the offset first
 abbrev pub placedOf : Origin → Point → Bounds → Placed
 placedOf o f b = placedBetween o (shifted f (b .min)) (shifted f (b .max))

@@ -1,4 +1,4 @@
--- Document 01, "When a label is turned away": checks 1 to 5, then 6 and 7 (the crate `path`).
+-- docs/RULES.md, "When a label is turned away": checks 1 to 5, then 6 and 7 (the crate `path`).
 use Prim.Native.Nat.{ℕ, _+_, _*_, _-_}
 use mathlib.Core.Bool.{cond, _&&_, _||_}
 use lib.Dec.{ltb}

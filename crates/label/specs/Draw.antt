@@ -1,4 +1,4 @@
--- Document 01, "When a label is turned away" and "From cells to a byte": the whole outcome of a drawing.
+-- docs/RULES.md, "When a label is turned away" and "From cells to a byte": the whole outcome of a drawing.
 use Prim.Native.Nat.{ℕ, _+_, _-_, _/_, min}
 use mathlib.Core.Bool.{Bool, cond}
 use mathlib.Core.List.{List}
@@ -22,7 +22,7 @@ use Rattle.label.specs.declared.Answer.the-variants.{Drawn, Refused}
 use Rattle.label.specs.declared.Numbers.{Numbers}
 use Rattle.label.specs.Checks.{rows, checkedOf}
 
--- the paper's number, index and counts of each answer
+-- the rules' number, index and counts of each answer
 abbrev pub numbersOf : Answer → Numbers
 numbersOf (Drawn records cells) = record { number = 0; index = 0; records = records; cells = cells }
 numbersOf (Refused why index) = record { number = numberOf why; index = index; records = 0; cells = 0 }
@@ -36,7 +36,7 @@ pub record Outcome : Type 0 where
 abbrev pub outcome : Answer → List ℕ → List ℕ → Outcome
 outcome answer mask words = record { answer = answer; mask = mask; words = words }
 
--- pool size = (words − rows) / 4 rounded down, at most 16,384
+-- how many cells the pool has: a quarter, rounded down, of the words that the rows leave, but no more than 16,384
 abbrev pub poolOf : Label → ℕ → ℕ
 poolOf l words = min 16384 ((words - rows l) / 4)
 
@@ -44,12 +44,12 @@ poolOf l words = min 16384 ((words - rows l) / 4)
 abbrev pub frameOf : Label → Frame
 frameOf l = record { wide = 8192 + l .width; first = 8192 + l .first; end = 8192 + l .end }
 
--- width bytes in each band row are written, and no others
+-- the mask with the pixels of the band rows painted, and nothing else
 unfoldable pub paintedOf : Label → List Deposit → List ℕ → List ℕ
 unfolding maskFrom
 paintedOf l log mask = maskFrom (l .fill) log (rows l) (l .width) (l .up) (l .pitch) 0 mask
 
--- after 0 or 13 all words are zero
+-- what 0 and 13 leave in the words
 abbrev pub wiped : List ℕ → List ℕ
 wiped words = replicate (length words) 0
 
@@ -57,7 +57,7 @@ wiped words = replicate (length words) 0
 abbrev pub logOf : Label → List Command → List Deposit
 logOf l cs = depositsOf (frameOf l) (strokesOf (l .transform) (l .offset) cs)
 
--- 13: the drawing stores more distinct places than the pool holds
+-- 13: the distinct places of what is stored outnumber the pool
 abbrev pub tooMany : Label → ℕ → List Command → Bool
 tooMany l words cs = ltb (poolOf l words) (distinct (logOf l cs))
 
@@ -68,7 +68,7 @@ inked full l mask words cs =
     cond full (outcome (Refused Full 0) mask (wiped words))
     (outcome (Drawn (length cs) (distinct (logOf l cs))) (paintedOf l (logOf l cs) mask) (wiped words))
 
--- a refusal leaves mask and workspace unchanged
+-- a refusal by 1 to 12 changes neither mask nor words
 abbrev pub turnedAway : Refusal → ℕ → List ℕ → List ℕ → Outcome
 turnedAway why index mask words = outcome (Refused why index) mask words
 

@@ -36,7 +36,7 @@ pub enum Answer {
     Refused { why: Refusal, record: u32 },
 }
 
-// An answer in the paper's numbers; the C face hands it out.
+// An answer in the rules' numbers; the C face hands it out.
 #[repr(C)]
 pub struct Numbers {
     pub number: u32,

@@ -1,4 +1,4 @@
--- Document 01, "Lines, curves, cells": the marks of a whole line.
+-- docs/RULES.md, "Lines, curves, cells": the marks of a whole line.
 use Prim.Native.Nat.{ℕ, _+_}
 use mathlib.Core.Bool.{Bool, cond, _&&_, _||_}
 use mathlib.Core.List.{List, [], _∷_, _++_}
@@ -20,8 +20,8 @@ sides l = apart (cell (l .x2)) (cell (l .x1)) + apart (cell (l .y2)) (cell (l .y
 abbrev pub within : Ends → Bool
 within l = eqb (cell (l .x1)) (cell (l .x2)) && eqb (cell (l .y1)) (cell (l .y2))
 
--- Within one cell it gives that cell a pair. With dy = 0 it only changes cell. Otherwise it crosses cells one side at a time
--- and gives each such a pair: vertical lines step a row, others test p.
+-- A line that stays in its cell gives it a pair. A level one, dy = 0, enters the cell of its end and gives nothing.
+-- Any other is followed through the sides of its cells, a vertical one row by row, a slanted one by the number p.
 unfoldable pub marksOf : Ends → List Mark
 unfolding upright crossed
 marksOf l =
@@ -41,7 +41,7 @@ past f y = leb (f .end) (cell y)
 abbrev pub ahead : Frame → ℕ → Bool
 ahead f y = ltb (cell y) (f .first)
 
--- a line with both end rows at or past `end`, or both before `first`, only moves the pen point
+-- a line whose end rows are both past the band, or both before it, makes no marks; the pen point still moves
 abbrev pub skips : Frame → Ends → Bool
 skips f l = past f (l .y1) && past f (l .y2) || ahead f (l .y1) && ahead f (l .y2)
 

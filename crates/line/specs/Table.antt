@@ -61,7 +61,7 @@ vertical-back : line 100 600 100 20 ≡ give 4294967208 4294949696 ∷ into 0 1 
 unfolding lineMarks
 vertical-back = refl
 
--- with dy = 0 it only changes cell
+-- level: the end's cell is entered, no pair is given
 level : line 0 100 700 100 ≡ into 2 0 ∷ []
 unfolding lineMarks
 level = refl
@@ -75,7 +75,7 @@ within-level : line 10 20 200 20 ≡ give 0 0 ∷ []
 unfolding lineMarks
 within-level = refl
 
--- both end rows at or past `end`, both before `first`, and one before with one past
+-- both ends past the band, both before it, and one before with one past
 past-end : line 0 768 600 900 ≡ []
 unfolding lineMarks
 past-end = refl

@@ -1,4 +1,4 @@
--- Document 01, "Lines, curves, cells": a line crosses cells one side at a time and gives each a pair.
+-- docs/RULES.md, "Lines, curves, cells": a line is followed through the sides of its cells and leaves a pair in each.
 -- A 24.8 number z is held as z + 2^21 and a cell z as z + 8192; p is an integer.
 use Prim.Native.Nat.{ℕ, zero, suc, _+_, _*_, _-_, _/_, _%_, _^_}
 use mathlib.Core.Bool.{cond, _&&_}
@@ -23,7 +23,7 @@ abbrev pub word : ℤ → ℕ
 word (pos n) = n % 2 ^ 32
 word (negsuc n) = 2 ^ 32 - 1 - n % 2 ^ 32
 
--- within one cell it gives that cell cover fy2 − fy1 and area (fy2 − fy1)·(fx1 + fx2)
+-- the pair of a line's part in one cell: the cover fy2 − fy1, the area (fy2 − fy1)·(fx1 + fx2)
 abbrev pub cover : At → ℕ → ℕ
 cover a fy2 = word (fy2 ⊖ a .fy)
 
@@ -44,7 +44,7 @@ over Next z a go = pair a z 256 ∷ enter (a .col) (a .row + 1) ∷ go (record {
 over Right z a go = pair a 256 z ∷ enter (a .col + 1) (a .row) ∷ go (record { col = a .col + 1; row = a .row; fx = 0; fy = z })
 over Previous z a go = pair a z 0 ∷ enter (a .col) (a .row - 1) ∷ go (record { col = a .col; row = a .row - 1; fx = z; fy = 256 })
 
--- vertical lines step a row: n rows, the next or the previous ones
+-- a vertical line: n rows on, by the next ones or by the previous ones
 abbrev pub rowSide : Ends → Side
 rowSide l = cond (ltb (l .y1) (l .y2)) Next Previous
 
@@ -59,7 +59,7 @@ dx l = l .x2 ⊖ l .x1
 abbrev pub dy : Ends → ℤ
 dy l = l .y2 ⊖ l .y1
 
--- others test p = dx·fy − dy·fx, kept exact from cell to cell; with q = p − 256dx and s = q + 256dy, and t = p + 256dy
+-- slanted lines: p = dx·fy − dy·fx at the start, and with it q = p − 256dx, s = q + 256dy, t = p + 256dy
 abbrev pub p : Ends → At → ℤ
 p l a = dx l *ℤ pos (a .fy) -ℤ dy l *ℤ pos (a .fx)
 
@@ -72,7 +72,7 @@ s l p = q l p +ℤ pos 256 *ℤ dy l
 abbrev pub t : Ends → ℤ → ℤ
 t l p = p +ℤ pos 256 *ℤ dy l
 
--- left if p ≤ 0 < q; next row if q ≤ 0 < s; right if s ≤ 0 ≤ p + 256dy; else previous row
+-- the side by which a slanted line leaves its cell: that of the first test that holds
 unfoldable pub way : Ends → ℤ → Side
 way l p =
     cond (leZ p (pos 0) && ltZ (pos 0) (q l p)) Left
@@ -80,18 +80,18 @@ way l p =
     (cond (leZ (s l p) (pos 0) && leZ (pos 0) (t l p)) Right
     Previous))
 
--- in that order p then loses 256dy, loses 256dx, gains 256dy, gains 256dx
+-- p in the next cell: exact, while crossings are cut
 abbrev pub gone : Ends → Side → ℤ → ℤ
 gone l Left p = p -ℤ pos 256 *ℤ dy l
 gone l Next p = p -ℤ pos 256 *ℤ dx l
 gone l Right p = p +ℤ pos 256 *ℤ dy l
 gone l Previous p = p +ℤ pos 256 *ℤ dx l
 
--- a crossing is a·r shifted right 24, with r = 16,777,215 / divisor, both taken positive
+-- how far along a side it is crossed: |a| times the rate 16,777,215 / |d|, over 2^24, each quotient cut
 abbrev pub crossing : ℤ → ℤ → ℕ
 crossing a d = natAbs a * (16777215 / natAbs d) / 2 ^ 24
 
--- with a = p, q, p + 256dy, p in that order, and the divisor dx for columns, dy for rows
+-- the a of each side; d is dx for the sides between columns, dy for those between rows
 abbrev pub cut : Ends → Side → ℤ → ℕ
 cut l Left p = crossing p (dx l)
 cut l Next p = crossing (q l p) (dy l)

@@ -1,4 +1,4 @@
-// Lines: a line from point to point crosses cells one side at a time and gives each a pair. A 24.8 number z is held as
+// Lines: a line is followed through the sides of its cells and gives each cell a pair. A 24.8 number z is held as
 // z + 2^21 and a cell as z + 8192. Through which side a slanted line leaves a cell is told by one number, p, held as p + BIAS.
 use fixed::FixedPoint;
 use pen::Frame;

@@ -1,4 +1,4 @@
--- Document 01, "The path list": what stands at a place of it, and the number of each reason to refuse.
+-- docs/RULES.md, "The path list": what stands at a place of it, and the number of each reason to refuse.
 use Prim.Native.Nat.{ℕ, _+_, _*_}
 use mathlib.Core.List.{List}
 use mathlib.Core.Bool.{cond, not, _||_}

@@ -1,4 +1,4 @@
--- Document 01, "The path list": records by computation. Each of the five kinds, the end, each refusal, and the order of the refusals.
+-- docs/RULES.md, "The path list": records by computation. Each kind, the end, each refusal, and their order.
 use Prim.Native.Nat.{ℕ}
 use mathlib.Core.Path.{_≡_, refl}
 use mathlib.Core.List.{List, [], _∷_, _++_, map}
@@ -79,7 +79,7 @@ unfolding stepAt
 empty = refl
 
 -- ---- refusals: 8
--- a list of 1, 2 or 3 bytes
+-- lists of one, two and three bytes
 pub short :
     map first ((0x02 ∷ []) ∷ (0x02 ∷ 0x00 ∷ []) ∷ (0x02 ∷ 0x00 ∷ 0x05 ∷ []) ∷ [])
     ≡ step.Refused Cut ∷ step.Refused Cut ∷ step.Refused Cut ∷ []

@@ -1,5 +1,5 @@
 // One record of a path list: a command with the place of the next record, the end, or a reason to refuse.
-// A record is a 2-byte length, a 2-byte kind, then coordinates, all little-endian.
+// A record has two bytes of length, two of kind and four of each coordinate, the lowest byte first.
 use command::Command;
 use geometry::Point;
 ghost use mathlib.Core.Path.{_≡_};
@@ -83,7 +83,7 @@ fn length_of(kind: usize) -> usize
     }
 }
 
-// The command of a kind, from the part of the list behind the header.
+// The command of a kind, from the slice behind the header.
 fn body_of(kind: usize, body: &[u8]) -> Command
     requires { ⌜ lengthOf kind ≤ length (now body) + 2 ⌝ }
     ensures { λ r. ⌜ r ≡ bodyOf kind (now (body .entry)) ⌝ }

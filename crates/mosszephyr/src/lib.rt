@@ -31,7 +31,7 @@ pub struct MzTransform {
     pub y: f32,
 }
 
-// What the calls answer, in the paper's numbers.
+// What the calls answer, in the rules' numbers.
 pub type MzDrawn = Numbers;
 
 pub type MzBounds = BoxNumbers;

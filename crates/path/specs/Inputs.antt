@@ -1,4 +1,4 @@
--- Document 01, "When a label is turned away": checks 6 and 7.
+-- docs/RULES.md, "When a label is turned away": checks 6 and 7.
 use Prim.Native.Nat.{ℕ}
 use mathlib.Core.Bool.{Bool, not, cond, _&&_}
 use lib.Dec.{ltb}
@@ -19,7 +19,7 @@ finitePoint p = finite (p .x) && finite (p .y)
 abbrev pub finiteTransform : Transform → Bool
 finiteTransform t = finite (t .xx) && finite (t .xy) && finite (t .yx) && finite (t .yy) && finite (t .x) && finite (t .y)
 
--- 6, a transform entry or offset part is NaN or infinite; 7, the list is longer than 65,536 bytes
+-- 6, a number of the transform or of the offset is not finite; 7, the list has more than 65,536 bytes
 unfoldable pub inputsOf : Transform → Point → ℕ → Verdict
 inputsOf t o list =
     cond (not (finiteTransform t && finitePoint o)) (Faulty NotFinite)

@@ -1,5 +1,5 @@
--- Document 01, "When a label is turned away": the records, front to back, the first faulty one deciding; within a record: header cut,
--- 9, 10, body cut (the crate `list`), 11, 12.
+-- docs/RULES.md, "When a label is turned away": the records in their order, up to one that is refused. Of a record
+-- `list` asks first whether its header is whole, 9, 10 and whether its body is whole; then come 11 and 12.
 use Prim.Native.Nat.{ℕ, zero, suc, _+_}
 use mathlib.Core.Bool.{Bool, true, false, not, cond, _&&_}
 use mathlib.Core.List.{List, [], _∷_}
@@ -39,7 +39,7 @@ unfolding spotAt
 allPass t o [] = true
 allPass t o (p ∷ ps) = passed (spotAt t o p) && allPass t o ps
 
--- the record of index i: 11, the first record is not MoveTo; 12, a point fails the point rule
+-- the record of index i: 11, the list begins with no MoveTo; 12, the point rule refuses a point
 unfoldable pub verdictOf : Transform → Point → ℕ → Command → Verdict
 unfolding allPass
 verdictOf t o i c =

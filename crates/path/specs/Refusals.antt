@@ -1,4 +1,4 @@
--- Document 01, "When a label is turned away": the number of each refusal.
+-- docs/RULES.md, "When a label is turned away": the number of each refusal.
 use Prim.Native.Nat.{ℕ}
 use Rattle.list.specs.declared.Reason.{Reason}
 use Rattle.list.specs.declared.Reason.the-variants as reason

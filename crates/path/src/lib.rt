@@ -1,5 +1,5 @@
 // A path list as a whole: its records are judged front to back, and an accepted list is drawn stroke by stroke into the pool.
-// Also the refusals of document 01's table, which all public answers share.
+// Also the refusals of the table in docs/RULES.md, which all public answers share.
 use command::Command;
 use fixed::FixedPoint;
 use fixed::Spot;
@@ -32,13 +32,13 @@ pub enum Refusal {
     Size,
     // 2: first > end, or end > height.
     Band,
-    // 3: pitch below width or above 65,536.
+    // 3: the pitch is below the width, or above 65,536.
     Pitch,
     // 4: the mask is too short.
     Mask,
     // 5: the workspace has fewer words than rows.
     Workspace,
-    // 6: a transform entry or offset part is NaN or infinite.
+    // 6: a number of the transform or of the offset is not finite.
     NotFinite,
     // 7: the list is longer than 65,536 bytes.
     Long,
@@ -50,7 +50,7 @@ pub enum Refusal {
     Length,
     // 11: the first record is not MoveTo.
     First,
-    // 12: a point fails the point rule.
+    // 12: the point rule refuses a point.
     Outside,
     // 13: more places than the pool holds.
     Full,

@@ -1,4 +1,4 @@
--- Document 01, "Lines, curves, cells": what the pen does, and which pairs it leaves in which places.
+-- docs/RULES.md, "Lines, curves, cells": what the pen does, and which pairs it leaves in which places.
 -- A cell z, column or row, is held as z + 8192.
 use Prim.Native.Nat.{ℕ, _+_, _-_, _%_, _^_, max}
 use mathlib.Core.Bool.{Bool, true, false, not, _&&_}
@@ -42,7 +42,7 @@ abbrev pub when {ℓ} : {A : Type ℓ} → Bool → A → List A → List A
 when true d ds = d ∷ ds
 when false d ds = ds
 
--- a pair is stored on leaving its cell unless both parts are zero
+-- a cell's pair is stored when the pen leaves it, unless both parts are zero
 abbrev pub leaving : Stand → List Pair
 leaving nowhere = []
 leaving (at c r v a) = when (not (eqb v 0 && eqb a 0)) (pairOf c r v a) []
@@ -52,16 +52,16 @@ left s [] = []
 left s (enter c r ∷ ms) = leaving s ++ left (at c r 0 0) ms
 left s (give v a ∷ ms) = left (gave s v a) ms
 
--- the last cell is stored even then
+-- the last cell's is stored also where both are zero
 abbrev pub lastOf : Stand → List Pair
 lastOf nowhere = []
 lastOf (at c r v a) = pairOf c r v a ∷ []
 
--- columns from width on and rows outside the band store nothing
+-- nothing is stored for columns at or right of the width, nor for rows outside the band
 abbrev pub inside : Frame → Pair → Bool
 inside f d = ltb (d .col) (f .wide) && leb (f .first) (d .row) && ltb (d .row) (f .end)
 
--- cells left of column −1 count as column −1: the first place of the row
+-- what lies further left than column −1 goes to column −1, the first place of the row
 abbrev pub placed : Frame → Pair → Deposit
 placed f d = given (d .row - f .first) (max (d .col) 8191 - 8191) (d .cover) (d .area)
 

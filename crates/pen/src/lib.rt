@@ -130,7 +130,7 @@ pub fn add(pen: Pen, cover: u32, area: u32) -> Pen
     }
 }
 
-// The end: the last cell, if inside, is stored even when both parts are zero.
+// The end: the cell that the pen is in is stored, where it is inside, also with both parts zero.
 pub fn finish(ws: &mut [u32], f: Frame, cap: usize, pen: Pen) -> Kept
     requires { ⌜ Ready f cap (now ws) ⌝ ∗ ⌜ Within cap (pen .kept) ⌝ }
     ensures { λ r. ⌜ Within cap r ⌝ ∗ ⌜ Added f cap (now (ws .entry)) (now (ws .exit)) (pen .kept) r (lastOf (standOf pen)) ⌝ }

@@ -1,5 +1,5 @@
--- Document 01's number, index and values for each answer: "refused, they give number and index, with box, offset and placement all 0". An accepted
--- one has number and index 0.
+-- The rules' number, index and values for each answer. A refused one has its number, its index and else zeros;
+-- an accepted one has number and index 0.
 use lib.IntN.{pos}
 use Rattle.float.specs.Cut.{zeroF}
 use Rattle.path.specs.Refusals.{numberOf}

@@ -1,5 +1,5 @@
--- Document 01, "From floats to 24.8 numbers": bounds and placement of a path list, and "When a label is turned away": "Bounds and placement use
--- 6 to 12 only, bounds with offset zero".
+-- docs/RULES.md, "From floats to 24.8 numbers": bounds and placement of a path list. Of the refusals of
+-- "When a label is turned away" they know 6 to 12, and bounds judge as for an offset of zero.
 use Prim.Native.Nat.{ℕ}
 use mathlib.Core.Bool.{Bool, true, false}
 use mathlib.Core.List.{List, [], _∷_, _++_, map}
@@ -36,7 +36,7 @@ unfoldable pub readChecked : Transform → Point → List ℕ → Read
 unfolding inputsOf readList
 readChecked t o s = unlessFaulty (inputsOf t o (length s)) (readList t o s)
 
--- ---- every transformed point, control points included, in order
+-- ---- every transformed point, control points too, in order
 abbrev pub movedPoints : Transform → Command → List Point
 movedPoints t c = map (moved t) (pointsOf c)
 
@@ -45,7 +45,7 @@ unfolding add mul
 pathPoints t [] = []
 pathPoints t (c ∷ cs) = movedPoints t c ++ pathPoints t cs
 
--- "Bounds cover every transformed point, control points included; ties keep the first", "For an empty list the box is (0,0) to (0,0)"
+-- the box around all of them, in which of equal parts the first stays; (0,0) to (0,0) for an empty list
 unfoldable pub pathBox : Transform → List Command → Bounds
 unfolding pathPoints boxOf
 pathBox t cs = boxOf (pathPoints t cs)
@@ -63,8 +63,8 @@ unfolding readChecked pathBox ofBits
 boundsOf t s = boxRead t (readChecked t nowhere s)
 
 -- ---- placement
--- "Placement adds the offset, floors the minimum, ceils the maximum; the new offset is the negated minimum. Width and height are the differences.
--- Left is the minimum's x; top is its y, plus the height for a bottom-left origin" (the crate `geometry`)
+-- where the box lies with the offset added, rounded outward to whole pixels, and the offset that brings it to the mask
+-- (the crate `geometry`)
 abbrev pub laidBetween : Origin → Point → Point → Laid
 laidBetween g a b = laid.At (negated a) (placementOf g a b)
 
@@ -72,7 +72,7 @@ unfoldable pub laidBox : Origin → Point → Bounds → Laid
 unfolding add neg floorZ ceilZ floorOf
 laidBox g o b = laidBetween g (shifted o (b .min)) (shifted o (b .max))
 
--- "and in placement the offset alone must pass the point rule, else 12 with index 0"
+-- an empty list is 12 with index 0 where the offset by itself fails the point rule
 abbrev pub ifPassed : Bool → Laid → Laid
 ifPassed true a = a
 ifPassed false a = laid.Refused Outside 0

@@ -21,7 +21,7 @@ use Rattle.placing.specs.Numbers.{boxNumbersOf, placeNumbersOf}
 abbrev still : Transform
 still = translationOf (float 0x8000_0000) (float 0x8000_0000)
 
--- ---- answers in the paper's numbers
+-- ---- answers in the rules' numbers
 abbrev bounds : Transform → List ℕ → BoxNumbers
 bounds t s = boxNumbersOf (boundsOf t s)
 

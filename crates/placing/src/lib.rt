@@ -1,5 +1,5 @@
 // The public face for where a path list lies: the box of its points, and the placement of its mask.
-// Both refuse by 6 to 12 of document 01's table, and answer whatever they are lent.
+// Both refuse by 6 to 12 of the table in docs/RULES.md, and answer whatever they are lent.
 use command::Command;
 use fixed::Spot;
 use geometry::Bounds;
@@ -33,7 +33,7 @@ pub enum Laid {
     Refused { why: Refusal, record: u32 },
 }
 
-// The answers in the paper's numbers, laid out for C.
+// The answers in the rules' numbers, laid out for C.
 #[repr(C)]
 pub struct BoxNumbers {
     pub number: u32,

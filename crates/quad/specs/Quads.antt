@@ -1,4 +1,4 @@
--- Document 01, "Lines, curves, cells": a quad from a to b, with the control point c.
+-- docs/RULES.md, "Lines, curves, cells": a quad from a to b, with the control point c.
 use Prim.Native.Nat.{ℕ, zero, suc, _+_, _*_, _/_, max}
 use mathlib.Core.Bool.{Bool, cond, _&&_, _||_}
 use mathlib.Core.List.{List, [], _∷_, _++_}
@@ -14,7 +14,7 @@ use Rattle.line.specs.Lines.{past, ahead, along}
 abbrev pub bend : FixedPoint → FixedPoint → FixedPoint → ℕ
 bend a c b = max (apart (a .x + b .x) (2 * c .x)) (apart (a .y + b .y) (2 * c .y))
 
--- A quad starts at one line; while its larger |p0 + p2 − 2c| exceeds 64, that is shifted right 2 and the lines double.
+-- One line, and twice as many each time that `bend`, while above 64, falls to a quarter.
 -- So often they double from the number d, at most n times.
 unfoldable pub doublings : ℕ → ℕ → ℕ
 doublings zero d = 0
@@ -30,14 +30,14 @@ unfoldable pub quadPoints : FixedPoint → FixedPoint → FixedPoint → List Fi
 unfolding doublings quadHalves
 quadPoints a c b = quadHalves (doublings 16 (bend a c b)) a c b
 
--- every point past one band edge
+-- every point past the band, and every point before it
 abbrev pub allPast : Frame → FixedPoint → FixedPoint → FixedPoint → Bool
 allPast f a c b = past f (a .y) && past f (c .y) && past f (b .y)
 
 abbrev pub allAhead : Frame → FixedPoint → FixedPoint → FixedPoint → Bool
 allAhead f a c b = ahead f (a .y) && ahead f (c .y) && ahead f (b .y)
 
--- Curves with every point past one band edge, as for lines, only move the pen point.
+-- A quad whose points are all past the band, or all before it, makes no marks; the pen point moves to its end.
 unfoldable pub quadMarks : Frame → FixedPoint → FixedPoint → FixedPoint → List Mark
 unfolding along quadPoints
 quadMarks f a c b = cond (allPast f a c b || allAhead f a c b) [] (along f a (quadPoints a c b))

@@ -29,7 +29,7 @@ fn bend_of(a: FixedPoint, c: FixedPoint, b: FixedPoint) -> u32
     if dx < dy { dy } else { dx }
 }
 
-// One line; while the bend exceeds 64, it is shifted right 2 and the lines double.
+// How many lines: one, doubled as often as the bend is quartered until it is at most 64.
 fn lines_of(bend: u32) -> u32
     ensures { λ r. ⌜ r ≡ 2 ^ doublings 16 bend ⌝ }
 {

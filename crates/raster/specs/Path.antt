@@ -1,4 +1,4 @@
--- Document 01, "Lines, curves, cells": the pen's way over a path.
+-- docs/RULES.md, "Lines, curves, cells": the pen's way over a path.
 use mathlib.Core.List.{List, [], _∷_, _++_}
 use Rattle.fixed.specs.declared.FixedPoint.{FixedPoint}
 use Rattle.fixed.specs.Fixed.{bias, cell}
@@ -30,7 +30,7 @@ strokeMarks f a s (Quad c b) = quadMarks f a c b
 strokeMarks f a s (Cubic c d b) = cubicMarks f a c d b
 strokeMarks f a s Close = lineMarks f a s
 
--- the pen point after it, and the start: drawing after Close continues from the closed subpath's start
+-- the pen point after it, and the start: behind a Close the pen goes on from the start
 abbrev pub pointAfter : FixedPoint → Stroke → FixedPoint
 pointAfter s (Move b) = b
 pointAfter s (Line b) = b

@@ -1,6 +1,6 @@
 // Replays the answers that `compare fixture` stored in the file `answers`, draws and places each of its cases, and writes how many differ.
 // Number 0 and all that goes with it is the Rust's answer. The Rust refuses nothing: every other number is that of compare's own reading of
-// document 01, which for 13 counts the Rust's cells.
+// docs/RULES.md, which for 13 counts the Rust's cells.
 // The file starts with MZREPLAY, then the count of drawings, the drawings, the count of placements, the placements; all numbers are little-endian.
 use geometry::Origin;
 use geometry::Point;

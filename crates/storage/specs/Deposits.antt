@@ -1,11 +1,11 @@
--- Document 01, "Lines, curves, cells": what is stored, told by the list of deposits in drawing order, the oldest first.
+-- docs/RULES.md, "Lines, curves, cells": what is stored, told by the deposits in drawing order, the oldest first.
 -- No word of the workspace is named here.
 use Prim.Native.Nat.{ℕ, _+_, _*_, _%_, _^_}
 use mathlib.Core.Bool.{Bool, true, false, not, _||_}
 use mathlib.Core.List.{List, [], _∷_}
 use lib.Dec.{eqb}
 
--- one column and row is one place: 8192·row + column, rows from the band's first, columns counted from 0 for column −1
+-- the place of a column and a row: 8192·row + column, rows from the band's first, columns counted from 0 for column −1
 abbrev pub perRow : ℕ
 perRow = 8192
 

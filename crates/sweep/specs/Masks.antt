@@ -13,11 +13,11 @@ use Rattle.sweep.specs.Pixels.{pixel}
 
 -- ---- the mask, by the rule
 
--- path row y stands at y − first from the top, or from the bottom when up
+-- which band row the line l of the mask shows: the lines go down from the first row, or up to it
 abbrev pub rowAt : Bool → ℕ → ℕ → ℕ
 rowAt up rows l = cond up (rows - 1 - l) l
 
--- the byte at i: width bytes in each band row are written, and no others
+-- the byte at i: a pixel where its line is a band row's and its column below the width, else what was there
 abbrev pub byteAt : Fill → List Deposit → ℕ → ℕ → Bool → ℕ → ℕ → ℕ → ℕ
 byteAt fill log rows width up pitch i old =
     cond (ltb (i / pitch) rows && ltb (i % pitch) width) (pixel fill log (rowAt up rows (i / pitch)) (i % pitch)) old

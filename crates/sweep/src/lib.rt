@@ -34,7 +34,7 @@ fn nonzero(v: u32) -> u8
     capped(8388608 - s - 1)
 }
 
-// The remainder by 512; from 256 on, 511 minus it.
+// The remainder by 512, folded: 256 becomes 255, 511 becomes 0.
 fn even_odd(v: u32) -> u8
     ensures { λ r. ⌜ r ≡ byteOf Fill.EvenOdd (signed v) ⌝ }
 {
@@ -147,7 +147,7 @@ fn sweep_row(
     paint(out, low, width + 1, run_byte(fill, cover));
 }
 
-// Paints the pixels of every row, each in its line of the mask: from the top, or from the bottom when up.
+// Paints the pixels of every row, each in its line of the mask: the first at the top, or at the bottom when up.
 pub fn sweep(
     ws: &[u32],
     rows: usize,

@@ -1,5 +1,5 @@
-//! Document 01's "Labels to try" that a caller can see: K1 to K8, K11, K12, and the bytes of K9 and
-//! K10 as drawings.
+//! "Labels to try" of docs/RULES.md, as far as a caller can see them: K1 to K8, K11, K12, and the
+//! bytes of K9 and K10 as drawings.
 
 use crate::{closed, drawn, k1, rectangle};
 use mosszephyr::{

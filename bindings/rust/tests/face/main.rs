@@ -1,5 +1,5 @@
-//! The crate over the library, as its users call it: document 01's labels and refusals, bands, and
-//! what a call leaves in the memory that it is lent.
+//! The crate over the library, as its users call it: the labels and refusals of the rules
+//! (docs/RULES.md), bands, and what a call leaves in the memory that it is lent.
 
 mod bands;
 mod labels;
