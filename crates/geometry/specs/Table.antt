@@ -1,9 +1,10 @@
 -- Worked values of the rules, by computation. A float is given by its bits.
 use mathlib.Core.Path.{_≡_, refl}
+use mathlib.Core.Bool.{Bool, true, false}
 use mathlib.Core.List.{List, [], _∷_}
 use Prim.Native.Nat.{ℕ}
 use lib.IntN.{ℤ, pos, negsuc}
-use lib.Ieee.{binary32, ofBits, toBits, add, mul, lt, neg}
+use lib.Ieee.{binary32, ofBits, toBits, add, mul, lt, le, neg}
 use Rattle.float.specs.Round.{floorZ, ceilZ, floorOf}
 use Rattle.geometry.specs.declared.Point.{Point}
 use Rattle.geometry.specs.declared.Transform.{Transform}
@@ -13,7 +14,7 @@ use Rattle.geometry.specs.declared.Placed.{Placed}
 use Rattle.geometry.specs.declared.Placed.the-variants.{At, Outside}
 use Rattle.geometry.specs.Affine.{shifted, transformOf, identityOf, translationOf, scaleOf, combineOf, translatedOf, moved}
 use Rattle.geometry.specs.Bits.{float, at}
-use Rattle.geometry.specs.Box.{boundsOf, boxFrom, boxOf}
+use Rattle.geometry.specs.Box.{boundsOf, boxFrom, boxOf, emptyOf, insideOf}
 use Rattle.geometry.specs.Placing.{reaches, placedOf}
 
 bits : Point → List ℕ
@@ -42,6 +43,31 @@ turned : bits (moved (combineOf quarter (scaleOf (float 0x4000_0000) (float 0x3f
 unfolding bits quarter ofBits toBits add mul
 turned = refl
 
+-- a move by (3, 5), then the quarter turn: x takes xy from 5, and y takes yx from 3
+moved-then-turned :
+    entries (combineOf (translationOf (float 0x4040_0000) (float 0x40a0_0000)) quarter)
+    ≡ (0 ∷ 0x3f80_0000 ∷ 0xbf80_0000 ∷ 0 ∷ 0x40a0_0000 ∷ 0xc040_0000 ∷ [])
+unfolding entries quarter ofBits toBits add mul
+moved-then-turned = refl
+
+-- 2 3 5 7 11 13, then 17 19 23 29 31 37: 2·17 + 5·19, 3·17 + 7·19, 2·23 + 5·29, 3·23 + 7·29,
+-- 11·17 + 13·19 + 31, 11·23 + 13·29 + 37
+low-primes : Transform
+low-primes =
+    transformOf (float 0x4000_0000) (float 0x4040_0000) (float 0x40a0_0000)
+    (float 0x40e0_0000) (float 0x4130_0000) (float 0x4150_0000)
+
+high-primes : Transform
+high-primes =
+    transformOf (float 0x4188_0000) (float 0x4198_0000) (float 0x41b8_0000)
+    (float 0x41e8_0000) (float 0x41f8_0000) (float 0x4214_0000)
+
+each-product :
+    entries (combineOf low-primes high-primes)
+    ≡ (0x4301_0000 ∷ 0x4338_0000 ∷ 0x433f_0000 ∷ 0x4388_0000 ∷ 0x43e8_8000 ∷ 0x4426_c000 ∷ [])
+unfolding entries low-primes high-primes ofBits toBits add mul
+each-product = refl
+
 -- 0.1·0.1 + 0.2·0.2, then + 0.3, each rounded
 rounded : bits (moved (transformOf (float 0x3dcc_cccd) (float 0) (float 0x3e4c_cccd) (float 0) (float 0x3e99_999a) (float 0)) (at 0x3dcc_cccd 0x3e4c_cccd)) ≡ (0x3eb3_3334 ∷ 0 ∷ [])
 unfolding bits ofBits toBits add mul
@@ -64,7 +90,7 @@ corners b = bits (b .min) ∷ bits (b .max) ∷ []
 
 -- 0.0 then -0.0: the first is kept, and the other way round
 zero-first : corners (boxOf (at 0 0x8000_0000 ∷ at 0x8000_0000 0 ∷ [])) ≡ ((0 ∷ 0x8000_0000 ∷ []) ∷ (0 ∷ 0x8000_0000 ∷ []) ∷ [])
-unfolding bits corners ofBits toBits lt boxFrom boxOf
+unfolding bits corners ofBits toBits lt le boxFrom boxOf
 zero-first = refl
 
 -- (1, 2), (-3, 5), (0, 0)
@@ -75,6 +101,32 @@ three = refl
 nothing : corners (boxOf []) ≡ ((0 ∷ 0 ∷ []) ∷ (0 ∷ 0 ∷ []) ∷ [])
 unfolding bits corners ofBits toBits boxOf
 nothing = refl
+
+-- in the box (0, 0) to (2, 2): (1, 1) is inside, and a point of each edge is not
+inside : Point → Bool
+inside p = insideOf (boundsOf (at 0 0) (at 0x4000_0000 0x4000_0000)) p
+
+edges :
+    inside (at 0x3f80_0000 0x3f80_0000)
+    ∷ inside (at 0 0x3f80_0000)
+    ∷ inside (at 0x4000_0000 0x3f80_0000)
+    ∷ inside (at 0x3f80_0000 0)
+    ∷ inside (at 0x3f80_0000 0x4000_0000)
+    ∷ []
+    ≡ (true ∷ false ∷ false ∷ false ∷ false ∷ [])
+unfolding inside ofBits lt le
+edges = refl
+
+-- (0, 0) to (2, 1); no width; no height; the minimum right of the maximum
+empties :
+    emptyOf (boundsOf (at 0 0) (at 0x4000_0000 0x3f80_0000))
+    ∷ emptyOf (boundsOf (at 0x3f80_0000 0) (at 0x3f80_0000 0x3f80_0000))
+    ∷ emptyOf (boundsOf (at 0 0x3f80_0000) (at 0x4000_0000 0x3f80_0000))
+    ∷ emptyOf (boundsOf (at 0x4000_0000 0) (at 0x3f80_0000 0x3f80_0000))
+    ∷ []
+    ≡ (false ∷ true ∷ true ∷ true ∷ [])
+unfolding ofBits lt le
+empties = refl
 
 -- ---- placement
 

@@ -2,8 +2,10 @@
 use Prim.Native.Nat.{ℕ, zero, suc, _+_, _*_, _-_, _/_, _%_, _<_, _≤_}
 use mathlib.Core.Path.{_≡_, refl, ap, _∙_}
 use mathlib.Core.Bool.{Bool, true, false}
+use mathlib.Core.List.{_∷_}
 use native.Mathlib.Omega.{arith}
 use lib.Dec.{ltb}
+use lib.IntN.{ℤ}
 use Rattle.float.specs.Differences.{_⊖_}
 use Rattle.fixed.specs.Fixed.{cell, apart}
 use Rattle.line.specs.declared.Ends.{Ends}
@@ -12,10 +14,10 @@ use Rattle.line.specs.declared.Rates.{Rates}
 use Rattle.line.specs.declared.Turn.{Turn}
 use Rattle.line.specs.declared.Side.{Side}
 use Rattle.line.specs.declared.Side.the-variants.{Left, Next, Right, Previous}
-use Rattle.line.specs.Walk.{start, last, upright, rowSide, p, way, cut, crossed}
+use Rattle.line.specs.Walk.{start, last, upright, rowSide, p, way, gone, cut, crossed}
 use Rattle.line.specs.Lines.{sides}
 use Rattle.line.specs.Course.{B, Bounded, Slanted, Course, ne, nw, se, sw, Level, beside, rowsTo, togo, Rated, Under, Stepped}
-use Rattle.line.specs.Trail.{Boxed}
+use Rattle.line.specs.Trail.{Boxed, cuts, UpTo, ended, also}
 use Rattle.line.proofs.Course.{Moved, moved}
 use Rattle.line.proofs.Turning.{stepped-left, stepped-next, stepped-right, stepped-previous}
 use Rattle.line.proofs.Cases.{sides-vertical}
@@ -67,15 +69,45 @@ crossed-trail (suc n) l k P a y u h = more (stepped l k P a y u (omega arith)) (
         let e : togo l (r .to .col) (r .to .row) ≡ n = omega (arith, s .nearer) in
         rw (crossed-suc n l (P ⊖ B) a ∙ s .made (crossed n l)) (on (boxed l _ _ _ (s .under .course)) (f (r .p) (r .to) (s .under) e))
 
-pub slanted-trail : (l : Ends) → Bounded l → Slanted l → Trail l (sides l) (cell (l .x1)) (cell (l .y1)) (crossed (sides l) l (p l (start l)) (start l))
-slanted-trail l b n = rw (u .1) at (crossed-trail (sides l) l (rates l) P (start l) (rated l b) (u .0) refl)
-  where
-    P : ℕ
-    P = B + l .y1 % 256 * l .x2 + l .x1 % 256 * l .y1 - l .y1 % 256 * l .x1 - l .x1 % 256 * l .y2
+cuts-suc : (n : ℕ) (l : Ends) (p : ℤ) → cuts (suc n) l p ≡ cut l (way l p) p ∷ cuts n l (gone l (way l p) p)
+unfolding cuts
+cuts-suc n l p = refl
 
-    u : Under l P (start l) × (P ⊖ B ≡ p l (start l))
-    u = begun-line l P b n
-        (omega (arith, mul-low (l .y1 % 256) (l .x1) (omega arith) (b .bx1), mul-low (l .x1 % 256) (l .y2) (omega arith) (b .by2)))
+-- each crossing of what is left of the walk is at most 255
+cuts-most : (n : ℕ) (l : Ends) (k : Rates) (P : ℕ) (a : At) → Rated l k → Under l P a → togo l (a .col) (a .row) ≡ n
+    → UpTo 255 (cuts n l (P ⊖ B))
+unfolding cuts
+cuts-most zero l k P a y u h = ended
+cuts-most (suc n) l k P a y u h = more (stepped l k P a y u (omega arith)) (λ Q b v e. cuts-most n l k Q b y v e)
+  where
+    more : ((r : Turn) × Stepped l P a r)
+        → ((Q : ℕ) (b : At) → Under l Q b → togo l (b .col) (b .row) ≡ n → UpTo 255 (cuts n l (Q ⊖ B)))
+        → UpTo 255 (cuts (suc n) l (P ⊖ B))
+    more (r, s) f =
+        let e : togo l (r .to .col) (r .to .row) ≡ n = omega (arith, s .nearer) in
+        let gs : UpTo 255 (cuts n l (gone l (way l (P ⊖ B)) (P ⊖ B))) = rw (s .went) (f (r .p) (r .to) (s .under) e) in
+        rw (cuts-suc n l (P ⊖ B)) (also (s .most) gs)
+
+-- a slanted line begins on its course
+module _ (l : Ends) (b : Bounded l) (n : Slanted l) where
+  begun : ℕ
+  begun = B + l .y1 % 256 * l .x2 + l .x1 % 256 * l .y1 - l .y1 % 256 * l .x1 - l .x1 % 256 * l .y2
+
+  on-way : Under l begun (start l) × (begun ⊖ B ≡ p l (start l))
+  unfolding begun
+  on-way =
+      begun-line l begun b n
+      (omega (
+        arith,
+        mul-low (l .y1 % 256) (l .x1) (omega arith) (b .bx1),
+        mul-low (l .x1 % 256) (l .y2) (omega arith) (b .by2),
+      ))
+
+  pub slanted-trail : Trail l (sides l) (cell (l .x1)) (cell (l .y1)) (crossed (sides l) l (p l (start l)) (start l))
+  slanted-trail = rw (on-way .1) at (crossed-trail (sides l) l (rates l) begun (start l) (rated l b) (on-way .0) refl)
+
+  pub slanted-cuts : UpTo 255 (cuts (sides l) l (p l (start l)))
+  slanted-cuts = rw (on-way .1) at (cuts-most (sides l) l (rates l) begun (start l) (rated l b) (on-way .0) refl)
 
 -- ---- vertical lines
 row-boxed : (l : Ends) (next : Bool) (a : At) → Boxed l (a .col) (a .row) → Level l next (a .row) → (a .row ≡ cell (l .y2) → ⊥) → Boxed l (beside a next .col) (beside a next .row)

@@ -104,6 +104,7 @@ module _ (l : Ends) (k : Rates) (P : ℕ) (a : At) (rated : Rated l k) (under : 
       let g : y ≡ crossing (P ⊖ B) (dx l) = cross-down B P _ _ _ y (m .1 .sign) (rated .kx) f in
       record {
         made = λ go. rw e (over-same Left a go (sym g) (sym (less-p P (l .y1) (l .y2) (under .close) (rated .small .by1) (rated .small .by2))));
+        went = rw e (sym (less-p P (l .y1) (l .y2) (under .close) (rated .small .by1) (rated .small .by2)));
         most = rw (e, ← g) s;
         smallx = omega arith;
         smally = omega arith;
@@ -119,6 +120,7 @@ module _ (l : Ends) (k : Rates) (P : ℕ) (a : At) (rated : Rated l k) (under : 
       let g : x ≡ crossing (q l (P ⊖ B)) (dy l) = rw (q-is l P) (cross-down (B + 256 * l .x2) (P + 256 * l .x1) _ _ _ x (m .sign) (rated .ky) f) in
       record {
         made = λ go. rw e (over-same Next a go (sym g) (sym (less-p P (l .x1) (l .x2) (under .close) (rated .small .bx1) (rated .small .bx2))));
+        went = rw e (sym (less-p P (l .x1) (l .x2) (under .close) (rated .small .bx1) (rated .small .bx2)));
         most = rw (e, ← g) s;
         smallx = omega arith;
         smally = omega arith;
@@ -134,6 +136,7 @@ module _ (l : Ends) (k : Rates) (P : ℕ) (a : At) (rated : Rated l k) (under : 
       let g : y ≡ crossing (t l (P ⊖ B)) (dx l) = rw (t-is l P) (cross-up (P + 256 * l .y2) (B + 256 * l .y1) _ _ _ y (m .sign) (rated .kx) f) in
       record {
         made = λ go. rw e (over-same Right a go (sym g) (sym (more-p P (l .y1) (l .y2) (under .close) (rated .small .by1) (rated .small .by2))));
+        went = rw e (sym (more-p P (l .y1) (l .y2) (under .close) (rated .small .by1) (rated .small .by2)));
         most = rw (e, ← g) s;
         smallx = omega arith;
         smally = omega arith;
@@ -148,6 +151,7 @@ module _ (l : Ends) (k : Rates) (P : ℕ) (a : At) (rated : Rated l k) (under : 
       let g : x ≡ crossing (P ⊖ B) (dy l) = cross-up P B _ _ _ x (m .1 .sign) (rated .ky) f in
       record {
         made = λ go. rw e (over-same Previous a go (sym g) (sym (more-p P (l .x1) (l .x2) (under .close) (rated .small .bx1) (rated .small .bx2))));
+        went = rw e (sym (more-p P (l .x1) (l .x2) (under .close) (rated .small .bx1) (rated .small .bx2)));
         most = rw (e, ← g) s;
         smallx = omega arith;
         smally = omega arith;

@@ -1,26 +1,29 @@
 -- What is true of every line within reach, whatever the band: the pen ends in the end cell, every cell that it enters is in the box of
--- the two end cells, and a line that is not level enters |Δcolumn| + |Δrow| cells.
-use Prim.Native.Nat.{ℕ, zero, suc}
+-- the two end cells, a line that is not level enters |Δcolumn| + |Δrow| cells, and each crossing lies from 0 to 255
+-- along its side.
+use Prim.Native.Nat.{ℕ, zero, suc, _≤_}
 use mathlib.Core.Path.{_≡_, refl, _∙_}
-use mathlib.Core.Bool.{Bool, true, false}
+use mathlib.Core.Bool.{Bool, true, false, cond}
 use mathlib.Core.List.{List, [], _∷_}
 use mathlib.Core.Logic.{_⊎_, inl, inr, ⊎-elim}
 use native.Mathlib.Omega.{arith}
 use lib.Dec.{eqb}
+use lib.ListN.{replicate}
 use borrow.Author.Tests.{eqb-true, eqb-false}
 use Rattle.fixed.specs.declared.FixedPoint.{FixedPoint}
-use Rattle.fixed.specs.Fixed.{cell}
+use Rattle.fixed.specs.Fixed.{cell, fraction}
 use Rattle.pen.specs.declared.Frame.{Frame}
 use Rattle.pen.specs.Marks.{Mark, enter, Stand, after}
 use Rattle.line.specs.declared.Ends.{Ends}
 use Rattle.line.specs.Range.{Reach}
-use Rattle.line.specs.Walk.{last}
+use Rattle.line.specs.Walk.{start, last, p}
 use Rattle.line.specs.Lines.{ends, sides, marksOf, lineAll, skips, lineMarks}
 use Rattle.line.specs.Course.{Bounded}
 use Rattle.line.specs.Trail.{StandsIn, Enters, none, gives, enters, moves, Boxed, Outside}
+use Rattle.line.specs.Trail.{cuts, crossings, UpTo, ended, also}
 use Rattle.line.proofs.Cases.{skips-which, marks-skipped, marks-kept, line-is, marks-within, marks-level, marks-vertical, marks-slanted, reach-bounded}
 use Rattle.line.proofs.Trail.{Trail, there, trail-ends, trail-enters, trail-boxed, trail-moves}
-use Rattle.line.proofs.Reached.{slanted-trail, vertical-trail}
+use Rattle.line.proofs.Reached.{slanted-trail, slanted-cuts, vertical-trail}
 
 -- the two end cells are not the same
 abbrev pub Leaves : Ends → Type 0
@@ -89,6 +92,20 @@ enters-map f none = none
 enters-map f (gives e) = gives (enters-map f e)
 enters-map f (enters {c} {r} h e) = enters (f c r h) (enters-map f e)
 
+all-alike : (m n k : ℕ) → k ≤ m → UpTo m (replicate n k)
+all-alike m zero k h = ended
+all-alike m (suc n) k h = also h (all-alike m n k h)
+
+at-most : (l : Ends) → Bounded l → UpTo 255 (crossings l)
+unfolding crossings
+at-most l b = go (eqb (l .y1) (l .y2)) (eqb (l .x1) (l .x2)) refl refl
+  where
+    go : (s t : Bool) → eqb (l .y1) (l .y2) ≡ s → eqb (l .x1) (l .x2) ≡ t
+        → UpTo 255 (cond s [] (cond t (replicate (sides l) (fraction (l .x1))) (cuts (sides l) l (p l (start l)))))
+    go true t e f = ended
+    go false true e f = all-alike 255 (sides l) (fraction (l .x1)) (omega arith)
+    go false false e f = slanted-cuts l b (record { wide = eqb-false _ _ f; high = eqb-false _ _ e })
+
 module _ (a b : FixedPoint) (ra : Reach a) (rb : Reach b) where
   of-line : Shape (ends a b) (lineAll a b)
   of-line = shape (ends a b) (reach-bounded ra rb)
@@ -108,6 +125,10 @@ module _ (a b : FixedPoint) (ra : Reach a) (rb : Reach b) where
   -- a line that is not level takes |Δcolumn| + |Δrow| moves
   pub line-moves : (a .y ≡ b .y → ⊥) → moves (lineAll a b) ≡ sides (ends a b)
   line-moves = moves-are (ends a b) of-line
+
+  -- each crossing lies from 0 to 255 along its side
+  pub line-crossings : UpTo 255 (crossings (ends a b))
+  line-crossings = at-most (ends a b) (reach-bounded ra rb)
 
   -- a skipped line has no marks, and any other all of them
   pub line-none : (f : Frame) → skips f (ends a b) ≡ true → lineMarks f a b ≡ []

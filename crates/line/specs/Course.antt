@@ -146,6 +146,7 @@ pub record Stepped (l : Ends) (P : ℕ) (a : At) (r : Turn) : Type 0 where
   pub made : (go : ℤ → At → List Mark) →
       over (way l (P ⊖ B)) (cut l (way l (P ⊖ B)) (P ⊖ B)) a (go (gone l (way l (P ⊖ B)) (P ⊖ B)))
       ≡ pair a (r .fx) (r .fy) ∷ enter (r .to .col) (r .to .row) ∷ go (r .p ⊖ B) (r .to)
+  pub went : gone l (way l (P ⊖ B)) (P ⊖ B) ≡ r .p ⊖ B
   pub most : cut l (way l (P ⊖ B)) (P ⊖ B) ≤ 255
   pub smallx : r .fx ≤ 256
   pub smally : r .fy ≤ 256

@@ -4,7 +4,8 @@ use mathlib.Core.Path.{_≡_, refl}
 use mathlib.Core.List.{List, [], _∷_}
 use Rattle.fixed.specs.Points.{above, below, at, point}
 use Rattle.pen.specs.Marks.{Mark, enter, give}
-use Rattle.line.specs.Lines.{lineMarks}
+use Rattle.line.specs.Lines.{ends, lineMarks}
+use Rattle.line.specs.Trail.{crossings}
 
 abbrev into : ℕ → ℕ → Mark
 into c r = enter (8192 + c) (8192 + r)
@@ -21,6 +22,11 @@ k4 = refl
 k4-back : line 256 256 0 0 ≡ give 0 0 ∷ into 0 1 ∷ give 0 0 ∷ into 0 0 ∷ give 4294967040 4294902016 ∷ []
 unfolding lineMarks
 k4-back = refl
+
+-- its two crossings: the right side at 255, then the corner
+k4-crossings : crossings (ends (point 0 0) (point 256 256)) ≡ 255 ∷ 0 ∷ []
+unfolding crossings
+k4-crossings = refl
 
 -- the other diagonal, both ways
 across : line 256 0 0 256 ≡ give 0 0 ∷ into 0 0 ∷ give 256 65536 ∷ into 0 1 ∷ give 0 0 ∷ []

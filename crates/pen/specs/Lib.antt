@@ -1,3 +1,4 @@
 pub mod Marks
+pub mod Table
 pub mod Laws
 pub mod Drawing

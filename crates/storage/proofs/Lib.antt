@@ -1,4 +1,5 @@
 pub mod Words
+pub mod Places
 pub mod Sums
 pub mod Linked
 pub mod Walk

@@ -1,7 +1,6 @@
 -- `float::floor` meets its contract. Assumes nothing.
 use Prim.Native.Nat.{_^_, _<_}
 use native.Mathlib.Nat.{le-of-lt}
-use native.Mathlib.Numerals.{add-one-le}
 use native.Mathlib.Omega.{arith}
 use lib.Dec.{T}
 use lib.Ieee.{binary32, fits}
@@ -29,7 +28,7 @@ add-result : tie.Need-add-result
 add-result c = omega (arith, small (c .before .before .before))
 
 int-to-float-result : tie.Need-int-to-float-result
-int-to-float-result c = in-float _ (add-one-le (small (c .before .before .before .before)))
+int-to-float-result c = in-float _ (omega (arith, small (c .before .before .before .before)))
 
 returns : tie.Need-returns
 returns c =
