@@ -12,3 +12,4 @@ pub mod Placing
 pub mod Lists
 pub mod Table
 pub mod Trials
+pub mod Values

@@ -17,10 +17,10 @@ use Rattle.placing.specs.declared.PlaceNumbers.{PlaceNumbers}
 use Rattle.paper.specs.Drawing.{Outcome, draw, drawInBands}
 
 -- ---- coordinates by their bits, and lists
-abbrev pub −2048·004 : ℕ
+abbrev pub −2048·004 : ℕ  -- −2048.00390625
 −2048·004 = 0xc500_0010
 
-abbrev pub −2048·0037 : ℕ
+abbrev pub −2048·0037 : ℕ  -- the float above −2048.00390625
 −2048·0037 = 0xc500_000f
 
 abbrev pub −2048 : ℕ
@@ -44,17 +44,32 @@ abbrev pub −3 : ℕ
 abbrev pub −2 : ℕ
 −2 = 0xc000_0000
 
+abbrev pub −1·0005 : ℕ  -- −1 − 2^−11
+−1·0005 = 0xbf80_1000
+
 abbrev pub −1 : ℕ
 −1 = 0xbf80_0000
 
+abbrev pub −0·999 : ℕ
+−0·999 = 0xbf7f_be77
+
 abbrev pub −0·5 : ℕ
 −0·5 = 0xbf00_0000
+
+abbrev pub −0·0039 : ℕ  -- −0.00390625
+−0·0039 = 0xbb80_0000
+
+abbrev pub −0·003 : ℕ
+−0·003 = 0xbb44_9ba6
 
 abbrev pub n0 : ℕ
 n0 = 0x0000_0000
 
 abbrev pub −0 : ℕ
 −0 = 0x8000_0000
+
+abbrev pub n0·0001 : ℕ  -- 2^−13
+n0·0001 = 0x3900_0000
 
 abbrev pub n0·25 : ℕ
 n0·25 = 0x3e80_0000
@@ -65,8 +80,14 @@ n0·5 = 0x3f00_0000
 abbrev pub n0·75 : ℕ
 n0·75 = 0x3f40_0000
 
+abbrev pub n0·999 : ℕ
+n0·999 = 0x3f7f_be77
+
 abbrev pub n1 : ℕ
 n1 = 0x3f80_0000
+
+abbrev pub n1·0002 : ℕ  -- 1 + 2^−12
+n1·0002 = 0x3f80_0800
 
 abbrev pub n1·5 : ℕ
 n1·5 = 0x3fc0_0000
@@ -101,6 +122,51 @@ n8 = 0x4100_0000
 abbrev pub n9 : ℕ
 n9 = 0x4110_0000
 
+abbrev pub n10 : ℕ
+n10 = 0x4120_0000
+
+abbrev pub n11 : ℕ
+n11 = 0x4130_0000
+
+abbrev pub n12 : ℕ
+n12 = 0x4140_0000
+
+abbrev pub n13 : ℕ
+n13 = 0x4150_0000
+
+abbrev pub n14 : ℕ
+n14 = 0x4160_0000
+
+abbrev pub n17 : ℕ
+n17 = 0x4188_0000
+
+abbrev pub n19 : ℕ
+n19 = 0x4198_0000
+
+abbrev pub n31 : ℕ
+n31 = 0x41f8_0000
+
+abbrev pub n39 : ℕ
+n39 = 0x421c_0000
+
+abbrev pub n46 : ℕ
+n46 = 0x4238_0000
+
+abbrev pub n58 : ℕ
+n58 = 0x4268_0000
+
+abbrev pub n94 : ℕ
+n94 = 0x42bc_0000
+
+abbrev pub n117 : ℕ
+n117 = 0x42ea_0000
+
+abbrev pub n140 : ℕ
+n140 = 0x430c_0000
+
+abbrev pub n197 : ℕ
+n197 = 0x4345_0000
+
 abbrev pub n2048 : ℕ
 n2048 = 0x4500_0000
 
@@ -112,6 +178,9 @@ n2048·004 = 0x4500_0010
 
 abbrev pub n2049 : ℕ
 n2049 = 0x4500_1000
+
+abbrev pub n16777216 : ℕ
+n16777216 = 0x4b80_0000
 
 abbrev pub huge : ℕ  -- 3e38
 huge = 0x7f61_b1e6

@@ -17,8 +17,8 @@ use Rattle.paper.specs.Cells.{spotIn, marks, stored, cellsOf, known, dis
 use Rattle.paper.specs.Bytes.{coverUpTo, areaAt, byteOf, painted}
 use Rattle.paper.specs.Drawing.{oneFull, inked, drawRead, drawIn, draw}
 use Rattle.paper.specs.Placing.{boxFrom, boxOf, pointsIn, bounds, floor, placementOf, placement}
-use Rattle.paper.specs.Lists.{−5, −1, n0, n0·25, n0·5, n1, n1·5, n2, n3, n3·25, n9, corners}
-use Rattle.paper.specs.Lists.{rectangle, label, under, drawn, full, turned, Draws, box, lies}
+use Rattle.paper.specs.Lists.{−5, −1, n0, n0·25, n0·5, n1, n1·5, n2, n3, n3·25, n9, corners, label}
+use Rattle.paper.specs.Lists.{drawn, full, Draws, lies}
 
 pub record Table : Type 0 where
   -- K1: rectangle (1,1) (3,1) (3,2) (1,2), 4×3

@@ -93,7 +93,7 @@ pub record Trials : Type 0 where
   pub two-bytes : Draws (label 1 1) (0x0A ∷ 0x00 ∷ []) 1 40 (turned 8 0)
   pub three-bytes : Draws (label 1 1) (0x0A ∷ 0x00 ∷ 0x01 ∷ []) 1 40 (turned 8 0)
   pub behind : Draws (label 4 3) (rectangle ++ 0x01 ∷ []) 12 40 (turned 8 5)
-  -- each kind without its last byte
+  -- each kind of record that has points, without its last byte
   pub cut-move : Draws (label 1 1) (take 11 (move n0 n0)) 1 40 (turned 8 0)
   pub cut-line : Draws (label 1 1) (move n0 n0 ++ take 11 (line n0 n0)) 1 40 (turned 8 1)
   pub cut-quad : Draws (label 1 1) (move n0 n0 ++ take 19 (quad n0 n0 n0 n0)) 1 40 (turned 8 1)
@@ -160,9 +160,11 @@ pub record Trials : Type 0 where
   -- 3e38 is killed by xx = 0, an infinite part is not
   pub killed : Draws (under (scale (float n0) (float n1)) (label 1 1)) (move huge n0) 1 40 (drawn 1 1 (0 ∷ []))
   pub not-killed : Draws (under (scale (float n0) (float n1)) (label 1 1)) (move infinite n0) 1 40 (turned 12 0)
-  -- the offset counts: 2047 and 1.00390625 off is too far, by −1 a point 2048.00390625 is near
+  -- the offset counts: with 2048.00390625 of it (0,0) is too far, with −1 of it 2048.00390625 is near
   pub offset-12 : Draws (shiftedBy n2048·004 n0 (label 1 1)) (move n0 n0) 1 40 (turned 12 0)
   pub offset-near : Draws (shiftedBy −1 n0 (label 1 1)) (move n2048·004 n0) 1 40 (drawn 1 0 (0 ∷ []))
+  -- drawn without a point, no offset is too far
+  pub empty-far : Draws (shiftedBy n2048·004 n0 (label 1 1)) [] 1 40 (drawn 0 0 (0 ∷ []))
   -- ---- transform and offset
   -- K1 from the unit square: twice as wide, moved by (1,0.5), and the offset (0,0.5)
   pub placed :
@@ -179,20 +181,18 @@ pub record Trials : Type 0 where
       ∷ 0 ∷ 255 ∷ 255 ∷ 0
       ∷ 0 ∷ 0 ∷ 0 ∷ 0 ∷ []))
   -- ---- subpaths
-  -- a triangle left open is closed by the end, by a MoveTo, and by a Close
+  -- a triangle left open is closed by the end, and by a MoveTo
   pub open-end : Draws (label 1 1) (move n0 n0 ++ line n1 n1 ++ line n0 n1) 1 40 (drawn 3 1 (128 ∷ []))
   pub open-move : Draws (label 1 1) (move n0 n0 ++ line n1 n1 ++ line n0 n1 ++ move n5 n5) 1 40 (drawn 4 1 (128 ∷ []))
   -- after Close the pen is at the start: K4 behind a line there and back
   pub after-close :
       Draws (label 1 1) (move n0 n0 ++ line n0 n1 ++ close ++ line n1 n1 ++ line n0 n1 ++ close) 1 40
-      (drawn 6 1
-      (128 ∷ []))
+      (drawn 6 1 (128 ∷ []))
   -- ---- lines and curves
   -- a long flat edge, (−2048,0) (2048,1) (−2048,1): the crossings are coarse
   pub coarse :
       Draws (label 8 1) (move −2048 n0 ++ line n2048 n1 ++ line −2048 n1) 8 40
-      (drawn 3 1
-      (135 ∷ 135 ∷ 135 ∷ 135 ∷ 135 ∷ 135 ∷ 135 ∷ 135 ∷ []))
+      (drawn 3 1 (135 ∷ 135 ∷ 135 ∷ 135 ∷ 135 ∷ 135 ∷ 135 ∷ 135 ∷ []))
   -- a quad, 5×4
   pub a-quad :
       Draws (label 5 4) (move n0 n0 ++ quad n4 n0 n4 n4 ++ line n0 n4 ++ close) 20 90
@@ -239,42 +239,35 @@ pub record Trials : Type 0 where
       (0 ∷ 255 ∷ 255 ∷ 0 ∷ 7
       ∷ 0 ∷ 0 ∷ 0 ∷ 0 ∷ []))
   -- the unit square twice: nonzero and even-odd
-  pub even-odd :
+  pub nonzero-twice :
       Draws (label 1 1) (corners n0 n0 n1 n0 n1 n1 n0 n1 ++ corners n0 n0 n1 n0 n1 n1 n0 n1) 1 40
-      (drawn 10 1
-      (255 ∷ []))
+      (drawn 10 1 (255 ∷ []))
   pub even-odd-twice :
       Draws (banded EvenOdd false 1 1 1 0 1) (corners n0 n0 n1 n0 n1 n1 n0 n1 ++ corners n0 n0 n1 n0 n1 n1 n0 n1) 1 40
-      (drawn 10 1
-      (0 ∷ []))
+      (drawn 10 1 (0 ∷ []))
   -- what lies outside of the band [1, 2) only moves the pen: a line, a quad, a cubic, then down and back
   pub line-skipped :
       Draws (banded NonZero false 2 2 2 1 2) (move n0 n0 ++ line n2 n0 ++ line n2 n2 ++ line n0 n2 ++ close) 2 40
-      (drawn 5 1
-      (255 ∷ 255 ∷ []))
+      (drawn 5 1 (255 ∷ 255 ∷ []))
   pub quad-skipped :
       Draws (banded NonZero false 2 2 2 1 2) (move n0 n0 ++ quad n1 −9 n2 n0 ++ line n2 n2 ++ line n0 n2 ++ close) 2 40
-      (drawn 5 1
-      (255 ∷ 255 ∷ []))
+      (drawn 5 1 (255 ∷ 255 ∷ []))
   pub cubic-skipped :
       Draws (banded NonZero false 2 2 2 1 2)
       (move n0 n0 ++ curve n0 −9 n2 −9 n2 n0 ++ line n2 n2 ++ line n0 n2 ++ close) 2 40
-      (drawn 5 1
-      (255 ∷ 255 ∷ []))
+      (drawn 5 1 (255 ∷ 255 ∷ []))
   -- ---- places
   -- a MoveTo leaves its cell: both triangles are stored, and the place counts although their sums cancel
   pub cancels : Draws (label 1 1) (cancelling ++ move −9 −9) 1 40 (drawn 9 1 (0 ∷ []))
-  -- K6 with its left edge 4 columns further right, and with more of it there: what is left of column 0 is one place
+  -- a left edge in column −1, and two of them, in columns −5 and −1: what is left of column 0 is one place
   pub left : Draws (label 4 1) (corners −1 n0 n2 n0 n2 n1 −1 n1) 4 40 (drawn 5 2 (255 ∷ 255 ∷ 0 ∷ 0 ∷ []))
   pub left-both :
       Draws (label 4 1) (corners −5 n0 n2 n0 n2 n1 −5 n1 ++ corners −1 n0 n2 n0 n2 n1 −1 n1) 4 40
-      (drawn 10 2
-      (255 ∷ 255 ∷ 0 ∷ 0 ∷ []))
+      (drawn 10 2 (255 ∷ 255 ∷ 0 ∷ 0 ∷ []))
   -- down in column −5 and up in column −3: each is stored when it is left, although together they are nothing
   pub left-cells :
       Draws (label 1 1) (move −5 n0·25 ++ line −5 n0·75 ++ line −3 n0·75 ++ line −3 n0·25 ++ close ++ move −9 −9) 1 40
-      (drawn 6 1
-      (0 ∷ []))
+      (drawn 6 1 (0 ∷ []))
   -- column −1 of a label without width, and column 0
   pub no-width : Draws (label 0 1) (move −1 n0) 0 40 (drawn 1 1 [])
   pub no-width-0 : Draws (label 0 1) (move n0 n0) 0 40 (drawn 1 0 [])
@@ -296,8 +289,7 @@ pub record Trials : Type 0 where
   -- a place that is there takes no room
   pub full-repeated :
       Draws (label 1 1) (corners n0 n0 n1 n0 n1 n1 n0 n1 ++ corners n0 n0 n1 n0 n1 n1 n0 n1) 1 5
-      (drawn 10 1
-      (255 ∷ []))
+      (drawn 10 1 (255 ∷ []))
   -- ---- in bands of so many rows
   -- K1, a row at a time; in twos, up, with pitch 5; two rows of it, up
   pub bands-k1 :
@@ -326,7 +318,7 @@ pub record Trials : Type 0 where
       (0 ∷ 255 ∷ 255 ∷ 0
       ∷ 0 ∷ 255 ∷ 255 ∷ 0
       ∷ 0 ∷ 255 ∷ 255 ∷ 0 ∷ []))
-  -- room for three: 13 in bands of two rows, none of one row; a step of 0 is one of 1
+  -- 17 words hold the two cells of a row, also with a step of 0, and three of the four of two rows
   pub ones :
       InBands 1 (label 4 3) tall 12 17
       (drawn 5 6
@@ -340,7 +332,7 @@ pub record Trials : Type 0 where
       ∷ 0 ∷ 255 ∷ 255 ∷ 0
       ∷ 0 ∷ 255 ∷ 255 ∷ 0 ∷ []))
   pub twos-full : InBands 2 (label 4 3) tall 12 17 full
-  -- room for one: the first band has two cells, the last has them, none has
+  -- room for one: two cells in the first band, in the last, in none
   pub first-full : InBands 1 (label 4 3) (corners n1 n0 n3 n0 n3 n1 n1 n1) 12 8 full
   pub last-full : InBands 1 (label 4 3) (corners n1 n2 n3 n2 n3 n3 n1 n3) 12 8 full
   pub none-full :
@@ -486,6 +478,7 @@ trials = record {
   not-killed = refl;
   offset-12 = refl;
   offset-near = refl;
+  empty-far = refl;
   placed = refl;
   quarter = refl;
   open-end = refl;
@@ -498,7 +491,7 @@ trials = record {
   band-down = refl;
   band-diamonds = refl;
   up = refl;
-  even-odd = refl;
+  nonzero-twice = refl;
   even-odd-twice = refl;
   line-skipped = refl;
   quad-skipped = refl;
