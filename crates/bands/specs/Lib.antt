@@ -1,3 +1,2 @@
 pub mod InBands
 pub mod Steps
-pub mod Table

@@ -1,6 +1,3 @@
-pub mod Lists
-pub mod Table
-pub mod Trials
 pub mod OldContents
 pub mod Ink
 pub mod Parts

@@ -9,4 +9,7 @@ pub mod Cells
 pub mod Bytes
 pub mod Drawing
 pub mod Placing
+pub mod Lists
 pub mod Table
+pub mod Trials
+pub mod Values
