@@ -14,7 +14,8 @@ use Rattle.paper.specs.Bytes.{painted}
 use Rattle.paper.specs.Drawing.{oneFull, drawIn, draw, bandsFrom, drawInBands}
 use Rattle.paper.specs.Demands.{number, Pictured, Demand2}
 use Rattle.paper.proofs.Pictures.{sound, painted-long, inside, pixel-at, other-at}
-use Rattle.paper.proofs.Demand1.{by-full, by-path, answered}
+use Rattle.paper.proofs.Calls.{by-full, by-path, answered}
+use Rattle.paper.proofs.Boxes.{box-is, of-path, of-none}
 
 -- ---- an accepted list, drawn in whatever bands
 module _ (bands : List Label) (l : Label) (s mask words : List ℕ) (cs : List Command)
@@ -43,14 +44,24 @@ module _ (bands : List Label) (l : Label) (s mask words : List ℕ) (cs : List C
       let why = answered bands l s mask words Full (λ ks. (λ t. t, λ t. t)) .accepted .0 e in
       full-or (why .1) (oneFull (length words) cs bands) refl e
 
--- AT ONCE
-pub demand2 : Demand2 draw
+at-once : (l : Label) (s mask words : List ℕ) (cs : List Command)
+    → number (draw l s mask words) ≡ 0 → readList (l .transform) (l .offset) s ≡ path cs
+    → Pictured l cs mask (draw l s mask words .mask)
 unfolding draw
-demand2 = record { masks = λ l s mask words cs e g. pictured (l ∷ []) l s mask words cs g e }
+at-once l s mask words cs e g = pictured (l ∷ []) l s mask words cs g e
 
--- IN BANDS
-pub demand2-in-bands : (step : ℕ) → Demand2 (drawInBands step)
+in-bands : (step : ℕ) (l : Label) (s mask words : List ℕ) (cs : List Command)
+    → number (drawInBands step l s mask words) ≡ 0 → readList (l .transform) (l .offset) s ≡ path cs
+    → Pictured l cs mask (drawInBands step l s mask words .mask)
 unfolding drawInBands
-demand2-in-bands step = record {
-  masks = λ l s mask words cs e g. pictured (bandsFrom (mostBands l) (max 1 step) l (l .first)) l s mask words cs g e;
+in-bands step l s mask words cs e g =
+    pictured (bandsFrom (mostBands l) (max 1 step) l (l .first)) l s mask words cs g e
+
+pub demand2 : Demand2
+demand2 = record {
+  atOnce = at-once;
+  inBands = in-bands;
+  boxes = λ t s cs e. box-is t s (path cs) e;
+  places = of-path;
+  nowhere = λ g t o s e h. of-none g t o s true h e;
 }

@@ -5,10 +5,8 @@ use mathlib.Core.Bool.{Bool, true, false, cond}
 use mathlib.Core.List.{List, [], _∷_}
 use native.Mathlib.Omega.{arith}
 use borrow.Author.Tests.{eq-eqb}
-use lib.Dec.{eqb}
 use lib.ListN.{length, getD}
 use Rattle.label.specs.declared.Label.{Label}
-use Rattle.label.specs.declared.Answer.{Answer}
 use Rattle.label.specs.declared.Answer.the-variants.{Drawn, Refused}
 use Rattle.label.specs.declared.Numbers.{Numbers}
 use Rattle.label.specs.Draw as label
@@ -16,7 +14,6 @@ use Rattle.label.specs.Draw.{numbersOf, drawOf}
 use Rattle.sweep.specs.Masks as masks
 use Rattle.claims.specs.Bands as claims
 use Rattle.claims.proofs.Bands as claimed
-use Rattle.bands.specs.InBands.{drawInBandsOf}
 use Rattle.bands.proofs.Whole.{at-once}
 use Rattle.paper.specs.TurnedAway.{rows}
 use Rattle.paper.specs.Drawing.{Outcome, draw, band, drawInBands}
@@ -25,7 +22,7 @@ use Rattle.paper.specs.Demands.{whole, LongEnough, Agrees, Piece, Partit
 use Rattle.paper.proofs.Pictures.{sound}
 use Rattle.paper.proofs.Demand1.{demand1}
 use Rattle.paper.proofs.Draws.{told, draws, draws-in-bands}
-use Rattle.paper.proofs.Back.{refusalOf, answerOf, untold, drawn-back}
+use Rattle.paper.proofs.Back.{refusalOf, answerOf, drawn-back}
 
 -- ---- a number 0 is an answer Drawn
 drawn-answer : (n : Numbers) → n .number ≡ 0 → answerOf n ≡ Drawn (n .records) (n .cells)
@@ -75,7 +72,7 @@ module _ (l : Label) (s mask words : List ℕ) (e : number (draw (whole l) s mas
 
   fine : (first end : ℕ) (mask′ : List ℕ) → LongEnough (band l first end) mask′ → claims.Roomy (band l first end) mask′
   fine first end mask′ h =
-      let sizes = demand1 .calls (whole l) s mask words .accepted .0 e .1 in
+      let sizes = demand1 .atOnce .answered (whole l) s mask words .accepted .0 e .1 in
       let fit = sound (whole l) (length mask) (length words) sizes in
       record { pitched = fit .pitched; near = fit .near; lines = h }
 

@@ -1,6 +1,6 @@
 -- The bytes of a painted mask: each pixel's is the rule's, each other byte is as it was.
 use Prim.Native.Nat.{ℕ, zero, suc, _+_, _*_, _-_, _/_, _%_, _≤_, _<_}
-use mathlib.Core.Path.{_≡_, refl, sym, ap, _∙_}
+use mathlib.Core.Path.{_≡_, refl, ap, _∙_}
 use mathlib.Core.Bool.{Bool, true, false, cond, _&&_, _||_}
 use mathlib.Core.List.{List, [], _∷_}
 use native.Mathlib.Omega.{arith}
@@ -10,7 +10,6 @@ use lib.Dec.{ltb}
 use lib.ListN.{length, getD}
 use lib.IntN.{pos}
 use borrow.Author.Tests.{lt-ltb, le-ltb, ltb-false}
-use Rattle.command.specs.declared.Command.{Command}
 use Rattle.sweep.proofs.Mask.{line-of, column-of}
 use Rattle.label.specs.declared.Label.{Label}
 use Rattle.paper.specs.TurnedAway.{rows, sizeFault}

@@ -1,19 +1,23 @@
--- What is asked of drawing: three demands, each a type. They speak of the rules of this crate, which the calls promise
--- to follow; proofs/Demand1.antt, Demand2.antt and Demand3.antt prove them.
-use Prim.Native.Nat.{ℕ, _+_, _-_, _*_, _≤_, _<_, max}
+-- What is asked of drawing: three demands, each a type. They speak of the rules of this crate, of which the calls
+-- promise the values for whatever they are given; proofs/Demand1.antt, Demand2.antt and Demand3.antt prove them.
+use Prim.Native.Nat.{ℕ, _+_, _-_, _*_, _≤_, _<_, min, max}
 use mathlib.Core.Path.{_≡_}
-use mathlib.Core.Bool.{true, cond}
+use mathlib.Core.Bool.{true, false, cond}
 use mathlib.Core.List.{List, [], _∷_}
 use mathlib.Core.Logic.{_↔_, _⊎_}
 use lib.ListN.{length, getD}
 use lib.IntN.{pos}
+use Rattle.geometry.specs.declared.Point.{Point}
+use Rattle.geometry.specs.declared.Transform.{Transform}
+use Rattle.geometry.specs.declared.Origin.{Origin}
 use Rattle.command.specs.declared.Command.{Command}
 use Rattle.label.specs.declared.Label.{Label}
-use Rattle.paper.specs.Steps.{mostBands}
+use Rattle.paper.specs.Floats.{passes}
 use Rattle.paper.specs.TurnedAway.{rows, sizeFault, path, faulty, readList}
 use Rattle.paper.specs.Cells.{cellsOf, distinct}
 use Rattle.paper.specs.Bytes.{value, byteOf}
-use Rattle.paper.specs.Drawing.{Outcome, pool, wiped, oneFull, draw, band, bandsFrom, drawInBands}
+use Rattle.paper.specs.Drawing.{Outcome, pool, wiped, draw, band, drawInBands}
+use Rattle.paper.specs.Placing.{pointsIn, origin, boxOf, boxed, bounds, around, unlaid, placement}
 
 abbrev pub Drawing : Type 0  -- a label, a list, a mask and a workspace, and what is left of them
 Drawing = Label → List ℕ → List ℕ → List ℕ → Outcome
@@ -28,8 +32,8 @@ In l y x = (l .first ≤ y) × (y < l .end) × (x < l .width)
 abbrev pub place : Label → ℕ → ℕ → ℕ
 place l y x = l .pitch * cond (l .up) (l .end - 1 - y) (y - l .first) + x
 
--- ---- DEMAND 1. Every call answers, whatever bytes, numbers and memory it is lent. Each refusal is given exactly when
--- the rules say so and leaves the mask as it was. Nothing left in the workspace by one label can show in the next.
+-- ---- DEMAND 1: no call fails to answer, whatever it is lent; a refusal comes exactly when the rules have it, and
+-- leaves the mask untouched; a workspace carries nothing from one label to the next
 
 -- what a call leaves, o, of the label l, the list s, the mask and the words. `Full cs` says that the path cs stores
 -- into more places than the pool has
@@ -37,7 +41,7 @@ pub record Answered (Full : List Command → Type 0) (l : Label) (s mask words :
   pub answers : number o ≤ 13
   -- 1 to 5: what the sizes alone say
   pub sizes : (n : ℕ) → 1 ≤ n → n ≤ 5 → number o ≡ n ↔ sizeFault l (length mask) (length words) ≡ n
-  -- 6 to 12, with the record's index: the sizes are right, and so the list is read
+  -- 6 to 12, with the record's index: the sizes are right, and what the list is read as says so
   pub records : (n i : ℕ) → 6 ≤ n → n ≤ 12
       → (number o ≡ n) × (o .answer .index ≡ i)
       ↔ (sizeFault l (length mask) (length words) ≡ 0) × (readList (l .transform) (l .offset) s ≡ faulty n i)
@@ -45,7 +49,7 @@ pub record Answered (Full : List Command → Type 0) (l : Label) (s mask words :
   pub thirteen : number o ≡ 13
       ↔ (cs : List Command) × (sizeFault l (length mask) (length words) ≡ 0)
       × (readList (l .transform) (l .offset) s ≡ path cs) × Full cs
-  -- 0: the sizes are right, the list is a path, and it is not
+  -- 0: the sizes are right, the list is a path, and it is not too much
   pub accepted : number o ≡ 0
       ↔ (cs : List Command) × (sizeFault l (length mask) (length words) ≡ 0)
       × (readList (l .transform) (l .offset) s ≡ path cs) × ¬ Full cs
@@ -59,36 +63,54 @@ pub record Answered (Full : List Command → Type 0) (l : Label) (s mask words :
   pub wordsKept : 0 < number o → number o < 13 → o .words ≡ words
   pub wordsWiped : (number o ≡ 0) ⊎ (number o ≡ 13) → o .words ≡ wiped words
 
-pub record Demand1 (drawing : Drawing) (Full : Label → ℕ → List Command → Type 0) : Type 0 where
-  pub calls : (l : Label) (s mask words : List ℕ)
+pub record EveryCall (drawing : Drawing) (Full : Label → ℕ → List Command → Type 0) : Type 0 where
+  pub answered : (l : Label) (s mask words : List ℕ)
       → Answered (Full l (length words)) l s mask words (drawing l s mask words)
-  -- a workspace as the last label left it, whatever that was, does as well as one that it has not had
+  -- a workspace as the last label left it does as well as one in which that was not drawn
   pub nextLabel : (l last : Label) (s s′ mask mask′ words : List ℕ)
       → let used = drawing last s′ mask′ words .words in
       (drawing l s mask used .answer ≡ drawing l s mask words .answer)
       × (drawing l s mask used .mask ≡ drawing l s mask words .mask)
-  -- nor do words of any other contents show, if there are as many
+  -- as many words of any other contents do not show
   pub oldWords : (l : Label) (s mask words words′ : List ℕ) → length words ≡ length words′
       → let o = drawing l s mask words in
       let o′ = drawing l s mask words′ in
       (o .answer ≡ o′ .answer) × (o .mask ≡ o′ .mask)
       × ((number o ≡ 0) ⊎ (number o ≡ 13) → o .words ≡ o′ .words)
-  -- nor bytes of another mask, if there are as many, where the label is drawn
+  -- nor do as many bytes of another mask, in the answer, the words and the pixels
   pub oldMask : (l : Label) (s mask mask′ words : List ℕ) → length mask ≡ length mask′
       → let o = drawing l s mask words in
       let o′ = drawing l s mask′ words in
       (o .answer ≡ o′ .answer) × (o .words ≡ o′ .words)
       × ((y x : ℕ) → number o ≡ 0 → In l y x → getD (o .mask) (place l y x) 0 ≡ getD (o′ .mask) (place l y x) 0)
 
--- at once: `Demand1 draw TooMany`
-abbrev pub TooMany : Label → ℕ → List Command → Type 0
+abbrev pub TooMany : Label → ℕ → List Command → Type 0  -- drawn at once, with so many words
 TooMany l words cs = pool l words < distinct (cellsOf l cs)
 
--- in bands: `Demand1 (drawInBands step) (OneTooMany step)`, for every step
+-- in bands of `step` rows, of which 0 counts as 1: too many for the k-th of them, for a k from 0 on. The last band ends
+-- with the label
 abbrev pub OneTooMany : ℕ → Label → ℕ → List Command → Type 0
-OneTooMany step l words cs = oneFull words cs (bandsFrom (mostBands l) (max 1 step) l (l .first)) ≡ true
+OneTooMany step l words cs =
+    (k : ℕ) × (l .first + k * max 1 step < l .end)
+    × TooMany (band l (l .first + k * max 1 step) (min (l .end) (l .first + (k + 1) * max 1 step))) words cs
 
--- ---- DEMAND 2. On every accepted input mask and placement equal the rules.
+pub record Demand1 : Type 0 where
+  pub atOnce : EveryCall draw TooMany
+  pub inBands : (step : ℕ) → EveryCall (drawInBands step) (OneTooMany step)
+  -- bounds and placements know 6 to 12 alone, as the list is read
+  pub boxes : (t : Transform) (s : List ℕ) (n i : ℕ) → 1 ≤ n
+      → (bounds t s .number ≡ n) × (bounds t s .index ≡ i) ↔ readList t origin s ≡ faulty n i
+  -- refused, they are all 0
+  pub noBox : (t : Transform) (s : List ℕ) → 0 < bounds t s .number
+      → bounds t s ≡ boxed (bounds t s .number) (bounds t s .index) (record { min = origin; max = origin })
+  -- of an empty list the offset is tested
+  pub places : (g : Origin) (t : Transform) (o : Point) (s : List ℕ) (n i : ℕ) → 1 ≤ n
+      → (placement g t o s .number ≡ n) × (placement g t o s .index ≡ i)
+      ↔ (readList t o s ≡ faulty n i) ⊎ ((readList t o s ≡ path []) × (passes o ≡ false) × (n ≡ 12) × (i ≡ 0))
+  pub noPlace : (g : Origin) (t : Transform) (o : Point) (s : List ℕ) → 0 < placement g t o s .number
+      → placement g t o s ≡ unlaid (placement g t o s .number) (placement g t o s .index)
+
+-- ---- DEMAND 2: what is accepted is drawn and placed as the rules have it
 
 -- the mask before and after the path cs was drawn
 pub record Pictured (l : Label) (cs : List Command) (mask after : List ℕ) : Type 0 where
@@ -102,13 +124,24 @@ pub record Pictured (l : Label) (cs : List Command) (mask after : List ℕ) : Ty
   pub others : (i : ℕ) → i < length mask → ((y x : ℕ) → In l y x → ¬ (place l y x ≡ i))
       → getD after i 0 ≡ getD mask i 0
 
-pub record Demand2 (drawing : Drawing) : Type 0 where
-  pub masks : (l : Label) (s mask words : List ℕ) (cs : List Command)
-      → number (drawing l s mask words) ≡ 0 → readList (l .transform) (l .offset) s ≡ path cs
-      → Pictured l cs mask (drawing l s mask words .mask)
+pub record Demand2 : Type 0 where
+  pub atOnce : (l : Label) (s mask words : List ℕ) (cs : List Command)
+      → number (draw l s mask words) ≡ 0 → readList (l .transform) (l .offset) s ≡ path cs
+      → Pictured l cs mask (draw l s mask words .mask)
+  pub inBands : (step : ℕ) (l : Label) (s mask words : List ℕ) (cs : List Command)
+      → number (drawInBands step l s mask words) ≡ 0 → readList (l .transform) (l .offset) s ≡ path cs
+      → Pictured l cs mask (drawInBands step l s mask words .mask)
+  -- the box of the path's points
+  pub boxes : (t : Transform) (s : List ℕ) (cs : List Command) → readList t origin s ≡ path cs
+      → bounds t s ≡ boxed 0 0 (boxOf (pointsIn t cs))
+  -- a placement is laid around it, and for an empty list around (0,0)
+  pub places : (g : Origin) (t : Transform) (o : Point) (s : List ℕ) (c : Command) (cs : List Command)
+      → readList t o s ≡ path (c ∷ cs) → placement g t o s ≡ around g o (boxOf (pointsIn t (c ∷ cs)))
+  pub nowhere : (g : Origin) (t : Transform) (o : Point) (s : List ℕ) → readList t o s ≡ path [] → passes o ≡ true
+      → placement g t o s ≡ around g o (record { min = origin; max = origin })
 
--- ---- DEMAND 3. For an accepted whole label every band of its rows, drawn alone, is accepted and gives each pixel the
--- byte that it has in the whole; over any partition into bands the cell counts add up.
+-- ---- DEMAND 3: if a whole label is accepted, so is each band of its rows by itself, and a pixel has one byte in both;
+-- the cells of bands that make up the label are together as many as the label's
 
 abbrev pub whole : Label → Label  -- all rows of a label
 whole l = band l 0 (l .height)

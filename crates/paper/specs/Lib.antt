@@ -10,4 +10,5 @@ pub mod Bytes
 pub mod Drawing
 pub mod Placing
 pub mod Demands
+pub mod Tried
 pub mod Table
