@@ -10,6 +10,8 @@ pub mod Bytes
 pub mod Drawing
 pub mod Placing
 pub mod Lists
+pub mod Demands
+pub mod Tried
 pub mod Table
 pub mod Trials
 pub mod Values
