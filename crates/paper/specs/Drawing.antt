@@ -1,4 +1,4 @@
--- docs/RULES.md, "When a label is turned away": 13, and the whole outcome of a drawing, at once and in bands.
+-- docs/RULES.md, "When a label is turned away": 13; "What a call leaves"; "In bands".
 use Prim.Native.Nat.{ℕ, zero, suc, _+_, _-_, _/_, min, max}
 use mathlib.Core.Bool.{Bool, true, false, cond, _||_}
 use mathlib.Core.List.{List, [], _∷_}

@@ -1,4 +1,4 @@
--- docs/RULES.md, "From floats to 24.8 numbers": bounds and placement.
+-- docs/RULES.md, "Bounds and placement".
 use Prim.Native.Nat.{ℕ, _*_ as _*ℕ_, _%_ as _%ℕ_}
 use mathlib.Core.Bool.{Bool, true, cond}
 use mathlib.Core.List.{List, [], _∷_, _++_, map}

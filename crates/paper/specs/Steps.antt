@@ -1,5 +1,5 @@
 -- A definition that calls itself is handed the number of calls that it has left, so that it is seen to end. The numbers
--- are no rules: none is ever used up.
+-- are no rules: each always suffices.
 use Prim.Native.Nat.{ℕ, _+_, _-_}
 use mathlib.Core.List.{List}
 use lib.ListN.{length}
@@ -8,7 +8,7 @@ use Rattle.label.specs.declared.Label.{Label}
 abbrev pub mostRecords : List ℕ → ℕ  -- a record takes four bytes or more
 mostRecords s = length s + 1
 
--- by the point rule a quad's bend is at most 2^21, which is 64 after less than 8 quarterings
+-- by the point rule a quad's bend is at most 2^21, and 8 quarterings make that 32
 abbrev pub mostDoublings : ℕ
 mostDoublings = 16
 
