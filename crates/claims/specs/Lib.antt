@@ -2,3 +2,4 @@ pub mod OldContents
 pub mod Ink
 pub mod Parts
 pub mod Bands
+pub mod Worked

@@ -1,3 +1,4 @@
 pub mod Checks
 pub mod Draw
 pub mod Inking
+pub mod Table

@@ -1,5 +1,6 @@
 -- Worked examples of whole paths, by computation: K4's triangle, a slanted line towards each of the four corners with an upright and a level
--- one back, a quad and a cubic. The numbers are those of the Rust: `compare cells` prints them from zeno's own storage.
+-- one back, a quad and a cubic. Their numbers are those of the Rust: `compare cells` prints them from zeno's own
+-- storage. Last, two figures that cancel.
 use Prim.Native.Nat.{ℕ, _+_}
 use mathlib.Core.Path.{_≡_, refl}
 use mathlib.Core.List.{List, [], _∷_, map}
@@ -45,6 +46,13 @@ pub record Table : Type 0 where
   pub up-right : Stores (label 3 2) (back (point 100 300) (point 600 20)) 5 (cell 1 4294967252 4294948200 ∷ cell 2 4294967153 4294930688 ∷ cell 3 187 37224 ∷ cell 8193 4294967252 4294955064 ∷ cell 8195 44 7744 ∷ [])
   pub quad : Stores (label 3 2) (Move (point 0 0) ∷ Quad (point 700 0) (point 700 500) ∷ []) 5 (cell 1 4294967139 4294927104 ∷ cell 2 20 19680 ∷ cell 3 137 17894 ∷ cell 8194 4294967187 4294928274 ∷ cell 8195 109 54003 ∷ [])
   pub cubic : Stores (label 3 3) (Move (point 0 0) ∷ Cubic (point 0 700) (point 700 700) (point 700 0) ∷ []) 6 (cell 1 256 8558 ∷ cell 3 4294967040 4294880191 ∷ cell 8193 244 57173 ∷ cell 8194 4294967257 4294945674 ∷ cell 8195 4294967091 4294931715 ∷ cell 16386 0 4294965983 ∷ [])
+  -- a triangle within one cell, and the same backwards: the MoveTo between them leaves the cell, so that both are
+  -- stored and the place counts although their sums are zero
+  pub cancels :
+      Stores (label 2 2)
+      (Move (point 320 320) ∷ Line (point 448 320) ∷ Line (point 320 448) ∷ Close
+      ∷ Move (point 320 448) ∷ Line (point 448 320) ∷ Line (point 320 320) ∷ Close
+      ∷ Move (point 2560 2560) ∷ []) 1 (cell 8194 0 0 ∷ [])
 
 pub table : Table
 unfolding depositsOf distinct sumOf
@@ -56,4 +64,5 @@ table = record {
   up-right = record { few = refl; sums = refl };
   quad = record { few = refl; sums = refl };
   cubic = record { few = refl; sums = refl };
+  cancels = record { few = refl; sums = refl };
 }

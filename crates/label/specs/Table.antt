@@ -1,0 +1,90 @@
+-- docs/RULES.md, "When a label is turned away", by computation: checks 1 to 5, the pool, 13, what a refusal leaves.
+use Prim.Native.Nat.{ℕ}
+use mathlib.Core.Path.{_≡_, refl}
+use mathlib.Core.Bool.{true, false}
+use mathlib.Core.List.{List, [], _∷_, map}
+use lib.Ieee.{ofBits}
+use Rattle.geometry.specs.Affine.{identityOf}
+use Rattle.geometry.specs.Bits.{at}
+use Rattle.command.specs.declared.Command.{Command}
+use Rattle.command.specs.declared.Command.the-variants.{MoveTo, LineTo, Close}
+use Rattle.storage.specs.Deposits.{distinct}
+use Rattle.raster.specs.Path.{depositsOf}
+use Rattle.sweep.specs.declared.Fill.the-variants.{NonZero}
+use Rattle.path.specs.declared.Refusal.the-variants.{Size, Band, Pitch, Mask, Workspace, Full}
+use Rattle.path.specs.declared.Verdict.the-variants.{Fine, Faulty}
+use Rattle.path.specs.Strokes.{strokesOf}
+use Rattle.label.specs.declared.Label.{Label}
+use Rattle.label.specs.Checks.{sizesOf}
+use Rattle.label.specs.declared.Answer.the-variants.{Refused}
+use Rattle.label.specs.Draw.{outcome, poolOf, tooMany, inked, turnedAway}
+
+-- width, height, pitch and band; nonzero, down, identity, offset zero
+abbrev label : ℕ → ℕ → ℕ → ℕ → ℕ → Label
+label width height pitch first end = record {
+  transform = identityOf;
+  offset = at 0 0;
+  fill = NonZero;
+  up = false;
+  width = width;
+  height = height;
+  pitch = pitch;
+  first = first;
+  end = end;
+}
+
+-- one pixel
+abbrev dot : Label
+dot = label 1 1 1 0 1
+
+-- three rows, with so many words
+abbrev pool : ℕ → ℕ
+pool words = poolOf (label 4 3 4 0 3) words
+
+-- a triangle within one cell, and a MoveTo into it: two pairs are stored in one place
+abbrev twice : List Command
+twice =
+    MoveTo (at 0x3e80_0000 0x3e80_0000) ∷ LineTo (at 0x3f40_0000 0x3e80_0000) ∷ LineTo (at 0x3e80_0000 0x3f40_0000)
+    ∷ Close ∷ MoveTo (at 0x3e80_0000 0x3e80_0000) ∷ []
+
+pub record Table : Type 0 where
+  -- ---- 1 to 4, where the check behind it would refuse too; 5 alone; none
+  pub size : sizesOf (label 2049 1 1 2 1) 0 0 ≡ Faulty Size
+  pub band : sizesOf (label 2 1 1 2 1) 0 0 ≡ Faulty Band
+  pub pitch : sizesOf (label 4 3 3 0 3) 8 40 ≡ Faulty Pitch
+  pub mask : sizesOf (label 4 3 4 0 3) 11 2 ≡ Faulty Mask
+  pub workspace : sizesOf (label 4 3 4 0 3) 12 2 ≡ Faulty Workspace
+  pub fine : sizesOf (label 4 3 4 0 3) 12 3 ≡ Fine
+  -- ---- the pool: 0, 3, 4, 7 and 8 words behind the rows' heads
+  pub small : map pool (3 ∷ 6 ∷ 7 ∷ 10 ∷ 11 ∷ []) ≡ 0 ∷ 0 ∷ 1 ∷ 1 ∷ 2 ∷ []
+  -- 65,535, 65,536 and 65,540
+  pub most : map pool (65538 ∷ 65539 ∷ 65543 ∷ []) ≡ 16383 ∷ 16384 ∷ 16384 ∷ []
+  -- a band has as many heads as rows
+  pub of-band : poolOf (label 1 9 1 4 6) 10 ≡ 2
+  -- ---- 13: one place, in a pool of none and in a pool of one
+  pub full : tooMany dot 4 (MoveTo (at 0 0) ∷ []) ≡ true
+  pub fits : tooMany dot 5 (MoveTo (at 0 0) ∷ []) ≡ false
+  -- two pairs in one place
+  pub one-place : tooMany dot 5 twice ≡ false
+  -- ---- what is left of a mask of 7s and a workspace of 9s: by 13, and by another refusal
+  pub wiped : inked true dot (7 ∷ []) (9 ∷ 9 ∷ []) [] ≡ outcome (Refused Full 0) (7 ∷ []) (0 ∷ 0 ∷ [])
+  pub kept : turnedAway Size 0 (7 ∷ []) (9 ∷ 9 ∷ []) ≡ outcome (Refused Size 0) (7 ∷ []) (9 ∷ 9 ∷ [])
+
+pub table : Table
+unfolding sizesOf distinct depositsOf strokesOf inked ofBits
+table = record {
+  size = refl;
+  band = refl;
+  pitch = refl;
+  mask = refl;
+  workspace = refl;
+  fine = refl;
+  small = refl;
+  most = refl;
+  of-band = refl;
+  full = refl;
+  fits = refl;
+  one-place = refl;
+  wiped = refl;
+  kept = refl;
+}
