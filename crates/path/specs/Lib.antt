@@ -2,3 +2,4 @@ pub mod Refusals
 pub mod Inputs
 pub mod Reading
 pub mod Strokes
+pub mod Pouring
