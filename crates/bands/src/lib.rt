@@ -77,7 +77,7 @@ fn count(list: &[u8], l: Label, step: usize, words: &mut [u32]) -> Kept
     let mut total: usize = 0;
     while at < l.end {
         let next = band_end(at, l.end, step);
-        match label::pour(list, band_of(l, at, next), words) {
+        match path::pour(list, l.transform, l.offset, l.width, at, next, words) {
             Kept::Full => {
                 return Kept::Full;
             }
@@ -97,7 +97,7 @@ fn paint_band(list: &[u8], b: Label, mask: &mut [u8], words: &mut [u32])
 {
     let rows = b.end - b.first;
     let fill = b.fill;
-    match label::pour(list, b, words) {
+    match path::pour(list, b.transform, b.offset, b.width, b.first, b.end, words) {
         Kept::Full => {}
         Kept::Cells(n) => sweep::sweep(words, rows, n, b.width, fill, b.up, b.pitch, mask),
     }

@@ -1,5 +1,5 @@
 -- docs/RULES.md, "When a label is turned away" and "From cells to a byte": the whole outcome of a drawing.
-use Prim.Native.Nat.{ℕ, _+_, _-_, _/_, min}
+use Prim.Native.Nat.{ℕ}
 use mathlib.Core.Bool.{Bool, cond}
 use mathlib.Core.List.{List}
 use lib.ListN.{length, replicate}
@@ -16,6 +16,7 @@ use Rattle.path.specs.declared.Verdict.the-variants.{Fine, Faulty}
 use Rattle.path.specs.Refusals.{numberOf}
 use Rattle.path.specs.Reading.{Read, refused, path, readList}
 use Rattle.path.specs.Strokes.{strokesOf}
+use Rattle.path.specs.Pouring as pouring
 use Rattle.label.specs.declared.Label.{Label}
 use Rattle.label.specs.declared.Answer.{Answer}
 use Rattle.label.specs.declared.Answer.the-variants.{Drawn, Refused}
@@ -36,13 +37,13 @@ pub record Outcome : Type 0 where
 abbrev pub outcome : Answer → List ℕ → List ℕ → Outcome
 outcome answer mask words = record { answer = answer; mask = mask; words = words }
 
--- how many cells the pool has: a quarter, rounded down, of the words that the rows leave, but no more than 16,384
+-- how many cells the pool has, of so many words
 abbrev pub poolOf : Label → ℕ → ℕ
-poolOf l words = min 16384 ((words - rows l) / 4)
+poolOf l words = pouring.poolOf (rows l) words
 
 -- the drawing's edges, as cells
 abbrev pub frameOf : Label → Frame
-frameOf l = record { wide = 8192 + l .width; first = 8192 + l .first; end = 8192 + l .end }
+frameOf l = pouring.frameOf (l .width) (l .first) (l .end)
 
 -- the mask with the pixels of the band rows painted, and nothing else
 unfoldable pub paintedOf : Label → List Deposit → List ℕ → List ℕ

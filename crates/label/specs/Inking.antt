@@ -6,14 +6,14 @@ use mathlib.Core.List.{List}
 use lib.ListN.{length}
 use Rattle.storage.specs.declared.Kept.{Kept}
 use Rattle.storage.specs.Cells.{Holds}
-use Rattle.storage.specs.Answers.{Within, Stored}
 use Rattle.command.specs.declared.Command.{Command}
 use Rattle.path.specs.Reading.{path, readList}
+use Rattle.path.specs.Pouring as pouring
 use Rattle.label.specs.declared.Label.{Label}
 use Rattle.label.specs.declared.Answer.{Answer}
 use Rattle.label.specs.declared.Answer.the-variants.{Drawn}
 use Rattle.label.specs.Checks.{mostPixels, mostPitch, rows}
-use Rattle.label.specs.Draw.{poolOf, Outcome, logOf, inked, drawOf}
+use Rattle.label.specs.Draw.{Outcome, logOf, inked, drawOf}
 
 -- a label that passes 1 to 3
 pub record Sized (l : Label) : Type 0 where
@@ -30,11 +30,8 @@ pub record Lent (l : Label) (mask words : ℕ) : Type 0 where
   pub heads : rows l ≤ words
 
 -- of an accepted list: what its strokes store is in the words, or is too much for the pool
-pub record Poured (l : Label) (s before after : List ℕ) (r : Kept) : Type 0 where
-  pub within : Within (poolOf l (length before)) r
-  pub same : length after ≡ length before
-  pub stored : (cs : List Command) → readList (l .transform) (l .offset) s ≡ path cs
-      → Stored after (rows l) (l .width) (poolOf l (length before)) (logOf l cs) r
+abbrev pub Poured : Label → List ℕ → List ℕ → List ℕ → Kept → Type 0
+Poured l s before after r = pouring.Poured (l .transform) (l .offset) (l .width) (l .first) (l .end) s before after r
 
 -- of an accepted list of so many records: the outcome is the rule's
 pub record Inked (full : List Command → Bool) (l : Label) (records : ℕ) (s mask words : List ℕ) (o : Outcome) : Type 0 where

@@ -5,17 +5,16 @@ use geometry::Transform;
 use path::Judged;
 use path::Refusal;
 use path::Verdict;
-use pen::Frame;
 use storage::Kept;
 use sweep::Fill;
 ghost use mathlib.Core.Path.{_≡_};
 ghost use mathlib.Core.Bool.{_&&_};
-ghost use Prim.Native.Nat.{_+_, _*_, _-_, _/_, _<_, _≤_, min};
+ghost use Prim.Native.Nat.{_+_, _*_, _-_, _≤_};
 ghost use lib.Dec.{ltb};
 ghost use lib.ListN.{length};
 ghost use Rattle.label.specs.Checks.{rows, sizesOf, checkedOf};
-ghost use Rattle.label.specs.Draw.{numbersOf, frameOf, outcome, tooMany, drawOf};
-ghost use Rattle.label.specs.Inking.{Sized, Lent, Poured, Inked, Celled};
+ghost use Rattle.label.specs.Draw.{numbersOf, outcome, tooMany, drawOf};
+ghost use Rattle.label.specs.Inking.{Sized, Lent, Inked, Celled};
 
 // What a drawing takes besides list, mask and workspace. The band is the rows from first up to end.
 pub struct Label {
@@ -48,8 +47,6 @@ pub struct Numbers {
 const MOST_PIXELS: usize = 2048;
 
 const MOST_PITCH: usize = 65536;
-
-const MOST_CELLS: usize = 16384;
 
 pub fn numbers_of(a: Answer) -> Numbers
     ensures { λ r. ⌜ r ≡ numbersOf a ⌝ }
@@ -123,42 +120,6 @@ pub fn check(l: Label, list: usize, mask: usize, words: usize) -> Verdict
     }
 }
 
-// How many cells the workspace has room for behind the rows' heads.
-fn pool_of(words: usize, rows: usize) -> usize
-    requires { ⌜ rows ≤ words ⌝ }
-    ensures { λ r. ⌜ r ≡ min 16384 ((words - rows) / 4) ⌝ }
-{
-    let room = (words - rows) / 4;
-    if MOST_CELLS < room {
-        return MOST_CELLS;
-    }
-    room
-}
-
-// The drawing's edges, as cells.
-fn frame_of(l: Label) -> Frame
-    requires { ⌜ Sized l ⌝ }
-    ensures { λ r. ⌜ r ≡ frameOf l ⌝ }
-{
-    Frame {
-        wide: (8192 + l.width) as u64,
-        first: (8192 + l.first) as u64,
-        end: (8192 + l.end) as u64,
-    }
-}
-
-// The list's strokes drawn into the workspace, whatever it held.
-pub fn pour(list: &[u8], l: Label, words: &mut [u32]) -> Kept
-    requires { ⌜ Sized l ⌝ ∗ ⌜ rows l ≤ length (now words) ⌝ }
-    ensures { λ r. ⌜ Poured l (now (list .entry)) (now (words .entry)) (now (words .exit)) r ⌝ }
-{
-    let rows = l.end - l.first;
-    let cap = pool_of(words.len(), rows);
-    let f = frame_of(l);
-    storage::clear(words, rows);
-    path::trace_list(words, f, cap, list, l.transform, l.offset)
-}
-
 // Draws an accepted list of so many records.
 fn ink(list: &[u8], l: Label, records: u32, mask: &mut [u8], words: &mut [u32]) -> Answer
     requires { ⌜ Sized l ⌝ ∗ ⌜ Lent l (length (now mask)) (length (now words)) ⌝ }
@@ -166,7 +127,7 @@ fn ink(list: &[u8], l: Label, records: u32, mask: &mut [u8], words: &mut [u32]) 
 {
     let rows = l.end - l.first;
     let fill = l.fill;
-    match pour(list, l, words) {
+    match path::pour(list, l.transform, l.offset, l.width, l.first, l.end, words) {
         Kept::Full => {
             storage::wipe(words);
             Answer::Refused {
@@ -206,7 +167,15 @@ pub fn cells(list: &[u8], l: Label, mask: usize, words: &mut [u32]) -> Answer
         Verdict::Faulty(why) => Answer::Refused { why, record: 0 },
         Verdict::Fine => match path::judge(list, l.transform, l.offset) {
             Judged::Refused(why, record) => Answer::Refused { why, record },
-            Judged::Records(n) => match pour(list, l, words) {
+            Judged::Records(n) => match path::pour(
+                list,
+                l.transform,
+                l.offset,
+                l.width,
+                l.first,
+                l.end,
+                words,
+            ) {
                 Kept::Full => Answer::Refused {
                     why: Refusal::Full,
                     record: 0,

@@ -21,10 +21,14 @@ ghost use Rattle.path.specs.Refusals.{numberOf, refusalOf};
 ghost use Rattle.path.specs.Inputs.{finitePoint, finiteTransform, inputsOf};
 ghost use Rattle.path.specs.Reading.{spotAt, passed, allPass, verdictOf, readList, judgedOf};
 ghost use Rattle.path.specs.Strokes.{fixedAt, strokeOf, Traced};
+ghost use Rattle.path.specs.Pouring.{poolOf, frameOf, Fits, Poured};
 ghost use Rattle.command.specs.Commands.{pointsOf};
 
 // The longest list, in bytes.
 const MOST_BYTES: usize = 65536;
+
+// The most cells that a pool has.
+const MOST_CELLS: usize = 16384;
 
 // Why a label is turned away.
 pub enum Refusal {
@@ -241,7 +245,7 @@ fn stroke_of(t: Transform, o: Point, k: Command) -> Stroke
 }
 
 // Draws the list's strokes into a pool that holds nothing yet.
-pub fn trace_list(ws: &mut [u32], f: Frame, cap: usize, list: &[u8], t: Transform, o: Point) -> Kept
+fn trace_list(ws: &mut [u32], f: Frame, cap: usize, list: &[u8], t: Transform, o: Point) -> Kept
     requires { ⌜ Ready f cap (now ws) ⌝ }
     ensures { λ r. ⌜ Traced f cap (now (ws .entry)) (now (ws .exit)) t o (now (list .entry)) r ⌝ }
 {
@@ -261,4 +265,48 @@ pub fn trace_list(ws: &mut [u32], f: Frame, cap: usize, list: &[u8], t: Transfor
             }
         }
     }
+}
+
+// How many cells the workspace has room for behind the rows' heads.
+fn pool_of(words: usize, rows: usize) -> usize
+    requires { ⌜ rows ≤ words ⌝ }
+    ensures { λ r. ⌜ r ≡ poolOf rows words ⌝ }
+{
+    let room = (words - rows) / 4;
+    if MOST_CELLS < room {
+        return MOST_CELLS;
+    }
+    room
+}
+
+// The drawing's edges, as cells.
+fn frame_of(width: usize, first: usize, end: usize) -> Frame
+    requires { ⌜ (width ≤ 4096) × (first ≤ 4096) × (end ≤ 4096) ⌝ }
+    ensures { λ r. ⌜ r ≡ frameOf width first end ⌝ }
+{
+    Frame {
+        wide: (8192 + width) as u64,
+        first: (8192 + first) as u64,
+        end: (8192 + end) as u64,
+    }
+}
+
+// The list's strokes drawn into the workspace, whatever it held, for the band [first, end) of a label of this width.
+pub fn pour(
+    list: &[u8],
+    t: Transform,
+    o: Point,
+    width: usize,
+    first: usize,
+    end: usize,
+    words: &mut [u32],
+) -> Kept
+    requires { ⌜ Fits width first end (length (now words)) ⌝ }
+    ensures { λ r. ⌜ Poured t o width first end (now (list .entry)) (now (words .entry)) (now (words .exit)) r ⌝ }
+{
+    let rows = end - first;
+    let cap = pool_of(words.len(), rows);
+    let f = frame_of(width, first, end);
+    storage::clear(words, rows);
+    trace_list(words, f, cap, list, t, o)
 }

@@ -4,6 +4,8 @@ use mathlib.Core.Path.{_≡_, refl, _∙_}
 use native.Mathlib.Omega.{arith}
 use lib.ListN.{length}
 use borrow.Author.Needs.{needs}
+use Rattle.label.proofs.Pouring.{pours}
+use Rattle.claims.specs.Bands.{bandOf}
 use Rattle.bands.specs.InBands.{bandEnd}
 use Rattle.bands.proofs.Rows.{band-sized}
 use Rattle.bands.proofs.Counting.{Counting, counting-none, counting-full, counting-more, counted-all, counted-full}
@@ -12,8 +14,7 @@ use Rattle.bands.proofs.count.Tie as tie
 use Rattle.bands.proofs.count.Reads as reads
 use Rattle.bands.proofs.count.Lts as lts
 use Rattle.bands.proofs.band_end.Reads as band-end-reads
-use Rattle.bands.proofs.band_of.Reads as band-of-reads
-use Rattle.label.proofs.pour.Reads as pour-reads
+use Rattle.path.proofs.pour.Reads as pour-reads
 
 abbrev Inv-loop : tie.InvT-loop
 Inv-loop list l step words₀ at₀ total₀ words at total = (length words ≡ length words₀) × Counting l step list (length words₀) at total
@@ -23,17 +24,16 @@ abbrev μ-loop : tie.MeasureT-loop
 
 -- one band more
 more : (c : tie.After-known-told Inv-loop μ-loop)
-    → let w = c .before .before .before .before .before .before .before .before .before .before .before in
+    → let w = c .before .before .before .before .before .before .before .before .before .before in
     let a = w .before .before .before .args in
     Counting (a .l) (a .step) (a .list .now) (length (a .words .now)) (bandEnd (a .step) (w .loop .at) (a .l .end)) (w .loop .total + c .before .n .given .0 .0)
 more c =
     let p = c .before .before .before .before .before in
-    let b = p .before .before in
-    let e = b .before in
+    let e = p .before .before in
     let t = e .before in
     let w = t .before .before in
     let a = w .before .before .before in
-    counting-more (a .args .l) (a .pre .0) _ _ _ (a .pre .1 .1) _ _ (w .loop .inv .1) (t .if1 .taken) _ _ _ (w .loop .inv .0) (rw (b .band-of .ensures, e .band-end .ensures) at (p .pour .ensures)) _
+    counting-more (a .args .l) (a .pre .0) _ _ _ (a .pre .1 .1) _ _ (w .loop .inv .1) (t .if1 .taken) _ _ _ (w .loop .inv .0) (rw (e .band-end .ensures) at (p .pour .ensures)) _
     (c .before .n .given .1)
 
 loop-holds : tie.Need-loop-holds Inv-loop μ-loop
@@ -44,12 +44,9 @@ loop-holds c =
 band-end-requires : tie.Need-band-end-requires Inv-loop μ-loop
 band-end-requires c κs = c .before .before .loop .inv .1 .to
 
-band-of-requires : tie.Need-band-of-requires Inv-loop μ-loop
-band-of-requires c κs = tt
-
 pour-requires : tie.Need-pour-requires Inv-loop μ-loop
 pour-requires c κs =
-    let e = c .before .before in
+    let e = c .before in
     let t = e .before in
     let w = t .before .before in
     let a = w .before .before .before in
@@ -57,8 +54,10 @@ pour-requires c κs =
     let next = e .band-end .ensures in
     let past : w .loop .at ≤ e .band-end .result = omega (arith, t .if1 .taken) in
     let to : e .band-end .result ≤ a .args .l .end = omega arith in
-    rw (c .before .band-of .ensures)
-    (band-sized (a .args .l) (w .loop .at) (e .band-end .result) (i .1 .from) past to (a .pre .0), omega (arith, i .0, i .1 .from, a .pre .1 .0))
+    pours (bandOf (a .args .l) (w .loop .at) (e .band-end .result))
+    (band-sized (a .args .l) (w .loop .at) (e .band-end .result) (i .1 .from) past to (a .pre .0))
+    _
+    (omega (arith, i .0, i .1 .from, a .pre .1 .0))
 
 enum-told : tie.Need-enum-told Inv-loop μ-loop
 enum-told c = search needs
@@ -69,35 +68,34 @@ same-length c = search needs
 returns : tie.Need-returns Inv-loop μ-loop
 returns c =
     let p = c .before .before .before .before in
-    let b = p .before .before in
-    let e = b .before in
+    let e = p .before .before in
     let t = e .before in
     let w = t .before .before in
     let a = w .before .before .before in
     counted-full _ _ _ _
-    (counting-full (a .args .l) (a .pre .0) _ _ _ (a .pre .1 .1) _ _ (w .loop .inv .1) (t .if1 .taken) _ _ _ (w .loop .inv .0) (rw (b .band-of .ensures, e .band-end .ensures) at (p .pour .ensures)) (c .enum-told .given .1))
+    (counting-full (a .args .l) (a .pre .0) _ _ _ (a .pre .1 .1) _ _ (w .loop .inv .1) (t .if1 .taken) _ _ _ (w .loop .inv .0) (rw (e .band-end .ensures) at (p .pour .ensures)) (c .enum-told .given .1))
 
 enum-known-n : tie.Need-enum-known-n Inv-loop μ-loop
 enum-known-n c = search needs
 
 add-total : tie.Need-add-total Inv-loop μ-loop
 add-total c =
-    let w = c .before .before .before .before .before .before .before .before .before .before .before in
+    let w = c .before .before .before .before .before .before .before .before .before .before in
     let m = more c in
     let z = w .before .before .before .pre .0 in
     omega (arith, m .few, m .from, m .to, z .inside, z .low)
 
 loop-less : tie.Need-loop-less Inv-loop μ-loop
 loop-less c =
-    let e = c .before .before .before .before .before .before .before .before in
+    let e = c .before .before .before .before .before .before .before in
     let t = e .before in
     omega (arith, e .band-end .ensures, t .if1 .taken, t .before .before .before .before .before .pre .1 .1)
 
 loop-again : tie.Need-loop-again Inv-loop μ-loop
 loop-again c =
     let p = c .before .before .before .before .before in
-    let w = p .before .before .before .before .before .before in
-    let e = p .before .before .before in
+    let w = p .before .before .before .before .before in
+    let e = p .before .before in
     (p .pour .ensures .same ∙ w .loop .inv .0, rw (e .band-end .ensures) (more c))
 
 same-length-2 : tie.Need-same-length-2 Inv-loop μ-loop
@@ -117,7 +115,6 @@ count-spec =
     μ-loop
     loop-holds
     band-end-requires
-    band-of-requires
     pour-requires
     enum-told
     same-length

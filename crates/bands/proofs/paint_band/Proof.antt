@@ -1,19 +1,21 @@
 -- What was poured is swept into the band's part of the mask.
-use Rattle.label.proofs.Pouring.{sweeps}
+use Rattle.label.proofs.Pouring.{pours, sweeps}
 use Rattle.bands.proofs.Painting.{not-poured, band-swept}
 use borrow.Author.Needs.{needs}
 use Rattle.bands.proofs.paint_band.Statement.{statement}
 use Rattle.bands.proofs.paint_band.Tie as tie
 use Rattle.bands.proofs.paint_band.Reads as reads
 use Rattle.bands.proofs.paint_band.Lts as lts
-use Rattle.label.proofs.pour.Reads as pour-reads
+use Rattle.path.proofs.pour.Reads as pour-reads
 use Rattle.sweep.proofs.sweep.Reads as sweep-reads
 
 sub-rows : tie.Need-sub-rows
 sub-rows c = search needs
 
 pour-requires : tie.Need-pour-requires
-pour-requires c κs = search needs
+pour-requires c κs =
+    let a = c .before .before .before .before .before in
+    pours (a .args .b) (a .pre .0) _ (a .pre .1 .heads)
 
 enum-told : tie.Need-enum-told
 enum-told c = search needs

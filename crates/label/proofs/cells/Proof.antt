@@ -3,7 +3,7 @@ use mathlib.Core.Path.{sym, _∙_}
 use native.Mathlib.Omega.{arith}
 use lib.ListN.{length}
 use Rattle.label.proofs.Sizes.{fitting, short-list}
-use Rattle.label.proofs.Pouring.{few-cells}
+use Rattle.label.proofs.Pouring.{pours, few-cells}
 use Rattle.label.proofs.Celling.{celled-turned, celled-faulty, celled-full, celled-cells}
 use borrow.Author.Needs.{needs}
 use Rattle.label.proofs.cells.Statement.{statement}
@@ -11,7 +11,7 @@ use Rattle.label.proofs.cells.Tie as tie
 use Rattle.label.proofs.cells.Reads as reads
 use Rattle.label.proofs.cells.Lts as lts
 use Rattle.label.proofs.check.Reads as check-reads
-use Rattle.label.proofs.pour.Reads as pour-reads
+use Rattle.path.proofs.pour.Reads as pour-reads
 use Rattle.path.proofs.judge.Reads as judge-reads
 
 check-requires : tie.Need-check-requires
@@ -41,7 +41,7 @@ pour-requires c κs =
     let k = e .before .before in
     let a = k .before .before .before in
     let f = fitting (a .args .l) (length (a .args .list .now)) (a .args .mask) (length (a .args .words .now)) (sym (k .check .ensures) ∙ e .enum-told .given .1) in
-    (f .sized, f .lent .heads)
+    pours (a .args .l) (f .sized) _ (f .lent .heads)
 
 enum-told-2 : tie.Need-enum-told-2
 enum-told-2 c = search needs

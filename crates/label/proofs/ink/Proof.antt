@@ -1,12 +1,12 @@
 -- What was poured is told by the answer: a full pool is 13, else the rows are swept; the words are wiped either way.
 use native.Mathlib.Omega.{arith}
-use Rattle.label.proofs.Pouring.{few-cells, sweeps, inked-full, inked-cells}
+use Rattle.label.proofs.Pouring.{pours, few-cells, sweeps, inked-full, inked-cells}
 use borrow.Author.Needs.{needs}
 use Rattle.label.proofs.ink.Statement.{statement}
 use Rattle.label.proofs.ink.Tie as tie
 use Rattle.label.proofs.ink.Reads as reads
 use Rattle.label.proofs.ink.Lts as lts
-use Rattle.label.proofs.pour.Reads as pour-reads
+use Rattle.path.proofs.pour.Reads as pour-reads
 use Rattle.storage.proofs.wipe.Reads as wipe-reads
 use Rattle.sweep.proofs.sweep.Reads as sweep-reads
 
@@ -14,7 +14,9 @@ sub-rows : tie.Need-sub-rows
 sub-rows c = search needs
 
 pour-requires : tie.Need-pour-requires
-pour-requires c κs = search needs
+pour-requires c κs =
+    let a = c .before .before .before .before .before in
+    pours (a .args .l) (a .pre .0) _ (a .pre .1 .heads)
 
 enum-told : tie.Need-enum-told
 enum-told c = search needs

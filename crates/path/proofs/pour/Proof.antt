@@ -1,13 +1,13 @@
 -- The heads are cleared, so the words hold nothing; then the strokes are stored.
-use Rattle.label.proofs.Pouring.{ready, poured}
+use Rattle.path.proofs.Pouring.{ready, poured}
 use borrow.Author.Needs.{needs}
-use Rattle.label.proofs.pour.Statement.{statement}
-use Rattle.label.proofs.pour.Tie as tie
-use Rattle.label.proofs.pour.Reads as reads
-use Rattle.label.proofs.pour.Lts as lts
-use Rattle.label.proofs.frame_of.Reads as frame-of-reads
-use Rattle.label.proofs.pool_of.Reads as pool-of-reads
+use Rattle.path.proofs.pour.Statement.{statement}
+use Rattle.path.proofs.pour.Tie as tie
+use Rattle.path.proofs.pour.Reads as reads
+use Rattle.path.proofs.pour.Lts as lts
+use Rattle.path.proofs.frame_of.Reads as frame-of-reads
+use Rattle.path.proofs.pool_of.Reads as pool-of-reads
 use Rattle.path.proofs.trace_list.Reads as trace-list-reads
 use Rattle.storage.proofs.clear.Reads as clear-reads
 
 sub-rows : tie.Need-sub-rows
@@ -27,8 +27,8 @@ trace-list-requires c κs =
     let k = c .before .before .before in
     let f = k .before .before in
     let p = f .before in
-    let a = p .before .before .before .before in
-    rw (f .frame-of .ensures) (ready (a .args .l) (a .pre .0) _ _ _ (a .pre .1) (p .pool-of .ensures) (k .clear .ensures))
+    let a = p .before .before .before in
+    rw (f .frame-of .ensures) (ready _ _ _ _ (a .pre) _ _ (p .pool-of .ensures) (k .clear .ensures))
 
 same-length : tie.Need-same-length
 same-length c = search needs
@@ -39,8 +39,8 @@ returns c =
     let k = t .before .before .before .before in
     let f = k .before .before in
     let p = f .before in
-    let a = p .before .before .before .before in
-    poured (a .args .l) (a .pre .0) _ _ _ _ _ _ (a .pre .1) (p .pool-of .ensures) (k .clear .ensures) (rw (f .frame-of .ensures) at (t .trace-list .ensures))
+    let a = p .before .before .before in
+    poured _ _ _ _ (a .pre) _ _ (p .pool-of .ensures) (k .clear .ensures) _ _ _ _ _ (rw (f .frame-of .ensures) at (t .trace-list .ensures))
 
 pub pour-spec : {M : Type 1} → statement M
 pour-spec =
