@@ -1,5 +1,7 @@
 -- What is asked of drawing: three demands, each a type. They speak of the rules of this crate, of which the calls
--- promise the values for whatever they are given; proofs/Demand1.antt, Demand2.antt and Demand3.antt prove them.
+-- promise the values for whatever they are given. proofs/Demand1.antt, Demand2.antt and Demand3.antt prove them;
+-- proofs/Promised.antt takes 1 and 2 to the promises of drawing, and by proofs/OneOutcome.antt no two outcomes satisfy
+-- a promise.
 use Prim.Native.Nat.{ℕ, _+_, _-_, _*_, _≤_, _<_, min, max}
 use mathlib.Core.Path.{_≡_}
 use mathlib.Core.Bool.{true, false, cond}
