@@ -2,7 +2,7 @@
 use Prim.Native.Nat.{ℕ}
 use mathlib.Core.Path.{_≡_, refl}
 use mathlib.Core.Bool.{true, false}
-use mathlib.Core.List.{List, [], _∷_, map}
+use mathlib.Core.List.{List, [], _∷_}
 use lib.Ieee.{ofBits}
 use Rattle.geometry.specs.Affine.{identityOf}
 use Rattle.geometry.specs.Bits.{at}
@@ -37,10 +37,6 @@ label width height pitch first end = record {
 abbrev dot : Label
 dot = label 1 1 1 0 1
 
--- three rows, with so many words
-abbrev pool : ℕ → ℕ
-pool words = poolOf (label 4 3 4 0 3) words
-
 -- a triangle within one cell, and a MoveTo into it: two pairs are stored in one place
 abbrev twice : List Command
 twice =
@@ -55,11 +51,7 @@ pub record Table : Type 0 where
   pub mask : sizesOf (label 4 3 4 0 3) 11 2 ≡ Faulty Mask
   pub workspace : sizesOf (label 4 3 4 0 3) 12 2 ≡ Faulty Workspace
   pub fine : sizesOf (label 4 3 4 0 3) 12 3 ≡ Fine
-  -- ---- the pool: 0, 3, 4, 7 and 8 words behind the rows' heads
-  pub small : map pool (3 ∷ 6 ∷ 7 ∷ 10 ∷ 11 ∷ []) ≡ 0 ∷ 0 ∷ 1 ∷ 1 ∷ 2 ∷ []
-  -- 65,535, 65,536 and 65,540
-  pub most : map pool (65538 ∷ 65539 ∷ 65543 ∷ []) ≡ 16383 ∷ 16384 ∷ 16384 ∷ []
-  -- a band has as many heads as rows
+  -- ---- a band has as many heads as rows
   pub of-band : poolOf (label 1 9 1 4 6) 10 ≡ 2
   -- ---- 13: one place, in a pool of none and in a pool of one
   pub full : tooMany dot 4 (MoveTo (at 0 0) ∷ []) ≡ true
@@ -79,8 +71,6 @@ table = record {
   mask = refl;
   workspace = refl;
   fine = refl;
-  small = refl;
-  most = refl;
   of-band = refl;
   full = refl;
   fits = refl;

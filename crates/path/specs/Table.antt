@@ -1,6 +1,6 @@
--- Worked values, by computation: the strokes of a path under a transform and an offset, and lists that are turned away.
+-- Worked values, by computation: the strokes of a path under a transform and an offset, lists that are turned away, pools.
 use mathlib.Core.Path.{_≡_, refl}
-use mathlib.Core.List.{[], _∷_, _++_}
+use mathlib.Core.List.{[], _∷_, _++_, map}
 use lib.Ieee.{ofBits}
 use Rattle.geometry.specs.Affine.{identityOf, scaleOf}
 use Rattle.geometry.specs.Bits.{float, at}
@@ -11,6 +11,7 @@ use Rattle.raster.specs.declared.Stroke.the-variants as stroke
 use Rattle.path.specs.declared.Refusal.the-variants.{Cut, First, Outside}
 use Rattle.path.specs.Reading.{refused, path, readList}
 use Rattle.path.specs.Strokes.{strokesOf}
+use Rattle.path.specs.Pouring.{poolOf}
 
 pub record Table : Type 0 where
   -- scaled by 2 and 3, offset (1,0.5): MoveTo (1,2), LineTo (3,4), QuadTo (0.5,1) (2,3),
@@ -36,7 +37,19 @@ pub record Table : Type 0 where
       ≡ path (MoveTo (at 0x3f80_0000 0x3f80_0000) ∷ LineTo (at 0x3f80_0000 0x3f80_0000) ∷ [])
   -- (2048,0) offset by (0.00390625,0) lies outside
   pub outside : readList identityOf (at 0x3b80_0000 0) (move 0 0 ++ line 0x4500_0000 0) ≡ refused Outside 1
+  -- the pool of three rows: 0, 3, 4, 7 and 8 words behind the rows' heads
+  pub small : map (poolOf 3) (3 ∷ 6 ∷ 7 ∷ 10 ∷ 11 ∷ []) ≡ 0 ∷ 0 ∷ 1 ∷ 1 ∷ 2 ∷ []
+  -- 65,535, 65,536 and 65,540
+  pub most : map (poolOf 3) (65538 ∷ 65539 ∷ 65543 ∷ []) ≡ 16383 ∷ 16384 ∷ 16384 ∷ []
 
 pub table : Table
 unfolding strokesOf readList ofBits
-table = record { strokes = refl; cut = refl; line-first = refl; line-second = refl; outside = refl }
+table = record {
+  strokes = refl;
+  cut = refl;
+  line-first = refl;
+  line-second = refl;
+  outside = refl;
+  small = refl;
+  most = refl;
+}
