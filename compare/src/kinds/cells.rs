@@ -105,9 +105,11 @@ fn judged(case: &Drawing) -> Verdict {
         Err(refusal) => {
             let theirs = answer_of(refusal.number, refusal.index, 0, 0);
             agree_on_answers(&answer, &theirs)?;
-            if refusal.number != NO_ROOM {
-                agree_on_words(words.part(), &case.words)?;
-            }
+            let left = match refusal.number {
+                NO_ROOM => vec![0; case.words.len()],
+                _ => case.words.clone(),
+            };
+            agree_on_words(words.part(), &left)?;
             Ok(NUMBERS[usize::from(refusal.number)].into())
         }
         Ok(drawn) => {
@@ -123,7 +125,7 @@ fn judged(case: &Drawing) -> Verdict {
     }
 }
 
-/// After this refusal the test function leaves the cells that found room: nothing is asked of them.
+/// After this refusal the words are all zero, as those of a drawing are.
 const NO_ROOM: u8 = 13;
 
 fn agree_on_cells(ours: &[CellAt], theirs: &[CellAt]) -> Result<(), String> {

@@ -1,4 +1,5 @@
--- The cells of a drawing that is not swept: its answer is the drawing's, and the words hold what the strokes store.
+-- The cells of a drawing that is not swept: its answer is the drawing's, and the words hold what the strokes store, or are
+-- those that the drawing's refusal leaves.
 use Prim.Native.Nat.{ℕ, _≤_}
 use mathlib.Core.Path.{_≡_, refl, sym, _∙_}
 use mathlib.Core.List.{List}
@@ -18,28 +19,34 @@ use Rattle.path.specs.Reading.{Read, path, refused, readList, judgedOf}
 use Rattle.label.specs.declared.Label.{Label}
 use Rattle.label.specs.declared.Answer.the-variants.{Drawn, Refused}
 use Rattle.label.specs.Checks.{rows, checkedOf}
-use Rattle.label.specs.Draw.{poolOf, logOf, tooMany, inked, drawnFrom}
+use Rattle.label.specs.Draw.{outcome, poolOf, logOf, tooMany, inked, drawnFrom, drawOf}
 use Rattle.label.specs.Inking.{Sized, Poured, Celled}
 use Rattle.label.proofs.Pouring.{inked-full}
-use Rattle.label.proofs.Drawing.{answered, refused-not-drawn, draw-is, by-path, turned, drawn-from, faulty, drawn}
+use Rattle.label.proofs.Drawing.{answered, worded, refused-not-drawn, drawn-not-refused, draw-is, by-path, turned, drawn-from, faulty, drawn}
 
 module _ (l : Label) (s : List ℕ) (mask : ℕ) (words : List ℕ) where
+  -- the outcome of a refusal tells both
+  refusing : {w : Refusal} {i : ℕ} {after : List ℕ} → ((m : List ℕ) → length m ≡ mask → outcome (Refused w i) m after ≡ drawOf l s m words)
+      → Celled l s mask words after (Refused w i)
+  refusing o = record { told = λ m h. answered (o m h); held = λ r n p. refused-not-drawn p; left = λ why index p m h. worded (o m h) }
+
   pub celled-turned : (w : Refusal) → checkedOf l (length s) mask (length words) ≡ Faulty w → Celled l s mask words words (Refused w 0)
-  celled-turned w e = record { told = λ m h. answered (turned (tooMany l (length words)) l s m words w (rw h e) ∙ draw-is l s m words); held = λ r n p. refused-not-drawn p }
+  celled-turned w e = refusing (λ m h. turned (tooMany l (length words)) l s m words w (rw h e) ∙ draw-is l s m words)
 
   module _ (c : checkedOf l (length s) mask (length words) ≡ Fine) where
     fine : (m : List ℕ) → length m ≡ mask → checkedOf l (length s) (length m) (length words) ≡ Fine
     fine m h = rw h c
 
     pub celled-faulty : (w : Refusal) (i : ℕ) → judgedOf (readList (l .transform) (l .offset) s) ≡ judged.Refused w i → Celled l s mask words words (Refused w i)
-    celled-faulty w i e = record { told = λ m h. answered (faulty (tooMany l (length words)) l s m words (fine m h) w i e ∙ draw-is l s m words); held = λ r n p. refused-not-drawn p }
+    celled-faulty w i e = refusing (λ m h. faulty (tooMany l (length words)) l s m words (fine m h) w i e ∙ draw-is l s m words)
 
     module _ (z : Sized l) (records : ℕ) (j : judgedOf (readList (l .transform) (l .offset) s) ≡ judged.Records records) (ws′ : List ℕ) (k : Kept) (p : Poured l s words ws′ k) where
-      pub celled-full : k ≡ Full → Celled l s mask words ws′ (Refused refusal.Full 0)
-      celled-full f = record {
-        told = λ m h. answered (drawn (tooMany l (length words)) l s m words (fine m h) records _ j (inked-full l z records s m words ws′ k f p (replicate (length ws′) 0) refl) ∙ draw-is l s m words);
-        held = λ r n q. refused-not-drawn q;
-      }
+      pub celled-full : k ≡ Full → (ws″ : List ℕ) → ws″ ≡ replicate (length ws′) 0 → Celled l s mask words ws″ (Refused refusal.Full 0)
+      celled-full f ws″ e =
+          refusing
+          (λ m h.
+          drawn (tooMany l (length words)) l s m words (fine m h) records _ j (inked-full l z records s m words ws′ k f p ws″ e)
+          ∙ draw-is l s m words)
 
       module _ (n : ℕ) (f : k ≡ Cells n) where
         holds : (cs : List Command) → readList (l .transform) (l .offset) s ≡ path cs → Holds ws′ (rows l) (l .width) n (logOf l cs)
@@ -64,4 +71,5 @@ module _ (l : Label) (s : List ℕ) (mask : ℕ) (words : List ℕ) where
           told = λ m h. read-answer m (readList (l .transform) (l .offset) s) refl j
               ∙ answered (drawn-from (tooMany l (length words)) l s m words (fine m h) (readList (l .transform) (l .offset) s) refl ∙ draw-is l s m words);
           held = λ r n′ q cs a. let e : n′ ≡ n = cc in rw e (holds cs a);
+          left = λ why index q. drawn-not-refused q;
         }

@@ -20,6 +20,12 @@ use Rattle.label.specs.Inking.{Inked}
 pub answered : {o o′ : Outcome} → o ≡ o′ → o .answer ≡ o′ .answer
 answered e = ap (λ (o : Outcome). o .answer) e
 
+pub worded : {o o′ : Outcome} → o ≡ o′ → o .words ≡ o′ .words
+worded e = ap (λ (o : Outcome). o .words) e
+
+pub drawn-not-refused : {X : Type 0} {w : Refusal} {i r n : ℕ} → Drawn r n ≡ Refused w i → X
+drawn-not-refused e = absurd (let z : _≡_ {A = ℕ} 0 1 = cc in omega arith)
+
 pub refused-not-drawn : {X : Type 0} {w : Refusal} {i r n : ℕ} → Refused w i ≡ Drawn r n → X
 refused-not-drawn e = absurd (let z : _≡_ {A = ℕ} 0 1 = cc in omega arith)
 

@@ -7,11 +7,12 @@ use lib.ListN.{length}
 use Rattle.storage.specs.declared.Kept.{Kept}
 use Rattle.storage.specs.Cells.{Holds}
 use Rattle.command.specs.declared.Command.{Command}
+use Rattle.path.specs.declared.Refusal.{Refusal}
 use Rattle.path.specs.Reading.{path, readList}
 use Rattle.path.specs.Pouring as pouring
 use Rattle.label.specs.declared.Label.{Label}
 use Rattle.label.specs.declared.Answer.{Answer}
-use Rattle.label.specs.declared.Answer.the-variants.{Drawn}
+use Rattle.label.specs.declared.Answer.the-variants.{Drawn, Refused}
 use Rattle.label.specs.Checks.{mostPixels, mostPitch, rows}
 use Rattle.label.specs.Draw.{Outcome, logOf, inked, drawOf}
 
@@ -37,8 +38,11 @@ Poured l s before after r = pouring.Poured (l .transform) (l .offset) (l .width)
 pub record Inked (full : List Command → Bool) (l : Label) (records : ℕ) (s mask words : List ℕ) (o : Outcome) : Type 0 where
   pub rule : (cs : List Command) → readList (l .transform) (l .offset) s ≡ path cs → records ≡ length cs → o ≡ inked (full cs) l mask words cs
 
--- `draw`'s answer for a mask of that length; where it is accepted the words hold what the strokes store
+-- `draw`'s answer for a mask of that length; where it is accepted the words hold what the strokes store, and a refusal
+-- leaves the words that `draw` leaves
 pub record Celled (l : Label) (s : List ℕ) (mask : ℕ) (before after : List ℕ) (r : Answer) : Type 0 where
   pub told : (m : List ℕ) → length m ≡ mask → r ≡ drawOf l s m before .answer
   pub held : (records n : ℕ) → r ≡ Drawn records n → (cs : List Command) → readList (l .transform) (l .offset) s ≡ path cs
       → Holds after (rows l) (l .width) n (logOf l cs)
+  pub left : (why : Refusal) (index : ℕ) → r ≡ Refused why index → (m : List ℕ) → length m ≡ mask
+      → after ≡ drawOf l s m before .words

@@ -12,7 +12,7 @@ ghost use mathlib.Core.Bool.{_&&_};
 ghost use Prim.Native.Nat.{_+_, _*_, _-_, _≤_};
 ghost use lib.Dec.{ltb};
 ghost use lib.ListN.{length};
-ghost use Rattle.label.specs.Checks.{rows, sizesOf, checkedOf};
+ghost use Rattle.label.specs.Checks.{sizesOf, checkedOf};
 ghost use Rattle.label.specs.Draw.{numbersOf, outcome, tooMany, drawOf};
 ghost use Rattle.label.specs.Inking.{Sized, Lent, Inked, Celled};
 
@@ -159,7 +159,8 @@ pub fn draw(list: &[u8], l: Label, mask: &mut [u8], words: &mut [u32]) -> Answer
     }
 }
 
-// For tests: draws as for a mask of so many bytes, and leaves the cells in the words instead of sweeping and wiping them.
+// For tests: draws as for a mask of so many bytes, and where it is accepted leaves the cells in the words, not swept and
+// not wiped.
 pub fn cells(list: &[u8], l: Label, mask: usize, words: &mut [u32]) -> Answer
     ensures { λ r. ⌜ Celled l (now (list .entry)) mask (now (words .entry)) (now (words .exit)) r ⌝ }
 {
@@ -176,10 +177,13 @@ pub fn cells(list: &[u8], l: Label, mask: usize, words: &mut [u32]) -> Answer
                 l.end,
                 words,
             ) {
-                Kept::Full => Answer::Refused {
-                    why: Refusal::Full,
-                    record: 0,
-                },
+                Kept::Full => {
+                    storage::wipe(words);
+                    Answer::Refused {
+                        why: Refusal::Full,
+                        record: 0,
+                    }
+                }
                 Kept::Cells(count) => Answer::Drawn {
                     records: n,
                     cells: count as u32,

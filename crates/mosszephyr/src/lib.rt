@@ -191,7 +191,7 @@ pub extern "C" fn mz_placement(
 
 // ---- for the runs against the Rust
 
-// Draws as mz_draw does with pitch = width and a mask long enough, and leaves the cells in the words.
+// Draws as mz_draw does with pitch = width and a mask long enough, but leaves the cells of an accepted list in the words.
 #[no_mangle]
 pub extern "C" fn mz_test_cells(
     list: &[u8],

@@ -13,6 +13,7 @@ use Rattle.label.proofs.cells.Lts as lts
 use Rattle.label.proofs.check.Reads as check-reads
 use Rattle.path.proofs.pour.Reads as pour-reads
 use Rattle.path.proofs.judge.Reads as judge-reads
+use Rattle.storage.proofs.wipe.Reads as wipe-reads
 
 check-requires : tie.Need-check-requires
 check-requires c κs = search needs
@@ -46,11 +47,14 @@ pour-requires c κs =
 enum-told-2 : tie.Need-enum-told-2
 enum-told-2 c = search needs
 
+wipe-requires : tie.Need-wipe-requires
+wipe-requires c κs = search needs
+
 enum-known-count : tie.Need-enum-known-count
 enum-known-count c = search needs
 
-cast-t21 : tie.Need-cast-t21
-cast-t21 c =
+cast-t24 : tie.Need-cast-t24
+cast-t24 c =
     let n = c .before in
     let p = n .before .before .before .before in
     let e = p .before .before .before .before .before .before in
@@ -74,7 +78,9 @@ same-length c = search needs
 
 returns-3 : tie.Need-returns-3
 returns-3 c =
-    let p = c .before .before .before .before in
+    let w = c .before .before in
+    let t = w .before .before in
+    let p = t .before .before .before .before in
     let n = p .before .before .before in
     let j = n .before .before in
     let e = j .before in
@@ -82,7 +88,7 @@ returns-3 c =
     let a = k .before .before .before in
     let q = sym (k .check .ensures) ∙ e .enum-told .given .1 in
     let f = fitting (a .args .l) (length (a .args .list .now)) (a .args .mask) (length (a .args .words .now)) q in
-    celled-full _ _ _ _ q (f .sized) _ (sym (j .judge .ensures) ∙ n .n .given .1) _ _ (p .pour .ensures) (c .enum-told2 .given .1)
+    celled-full _ _ _ _ q (f .sized) _ (sym (j .judge .ensures) ∙ n .n .given .1) _ _ (p .pour .ensures) (t .enum-told2 .given .1) _ (w .wipe .ensures)
 
 same-length-2 : tie.Need-same-length-2
 same-length-2 c = search needs
@@ -111,8 +117,9 @@ cells-spec =
     enum-known-n
     pour-requires
     enum-told-2
+    wipe-requires
     enum-known-count
-    cast-t21
+    cast-t24
     returns
     returns-2
     same-length
