@@ -3,6 +3,7 @@ use Prim.Native.Nat.{ℕ}
 use mathlib.Core.Path.{_≡_, refl}
 use mathlib.Core.Bool.{true, false}
 use mathlib.Core.List.{List, [], _∷_, _++_}
+use lib.ListN.{length}
 use lib.IntN.{ℤ, pos, negℤ}
 use lib.Ieee.{ofBits, add, mul, neg}
 use Rattle.geometry.specs.Bits.{float, at}
@@ -10,6 +11,7 @@ use Rattle.command.specs.declared.Command.the-variants.{MoveTo, LineTo, QuadTo,
 use Rattle.sweep.specs.declared.Fill.the-variants.{NonZero, EvenOdd}
 use Rattle.label.specs.declared.Label.{Label}
 use Rattle.paper.specs.Numbers.{_/_, wrapped}
+use Rattle.paper.specs.Steps.{mostDoublings, mostSplits}
 use Rattle.paper.specs.PathList.{four, lengthOf, commandIn}
 use Rattle.paper.specs.Floats.{Spot, moved, shifted, combine, thenTranslate, translation, scale, identity}
 use Rattle.paper.specs.Floats.{fixedOf, near, passes, cell, fraction}
@@ -217,8 +219,9 @@ pub record Values : Type 0 where
   -- ---- curves, by the points to which their lines go
   -- how often the lines of a quad double, by its bend
   pub doubled :
-      (curves.doublings 16 64 ≡ 0) × (curves.doublings 16 65 ≡ 1) × (curves.doublings 16 256 ≡ 1)
-      × (curves.doublings 16 259 ≡ 1) × (curves.doublings 16 260 ≡ 2) × (curves.doublings 16 2097152 ≡ 8)
+      (curves.doublings mostDoublings 64 ≡ 0) × (curves.doublings mostDoublings 65 ≡ 1)
+      × (curves.doublings mostDoublings 256 ≡ 1) × (curves.doublings mostDoublings 259 ≡ 1)
+      × (curves.doublings mostDoublings 260 ≡ 2) × (curves.doublings mostDoublings 2097152 ≡ 8)
   -- how far the control point is off, on the worse axis
   pub bends :
       (curves.bend (spot (pos 0) (pos 0)) (spot (pos 5) (below 40)) (spot (pos 3) (pos 1)) ≡ 81)
@@ -252,14 +255,19 @@ pub record Values : Type 0 where
   pub middles : (curves.mid odd even ≡ odd) × (curves.mid4 odd even even ≡ odd) × (curves.mid8 odd even even even ≡ odd)
   -- one line; a cubic from (−3,5) by (200,−207) and (301,400) to (33,255): the half at its start comes first
   pub a-line-cubic :
-      curves.cubicPoints 8 (spot (pos 30) (pos 0)) (spot (pos 20) (pos 0)) (spot (pos 10) (pos 0))
+      curves.cubicPoints mostSplits (spot (pos 30) (pos 0)) (spot (pos 20) (pos 0)) (spot (pos 10) (pos 0))
       (spot (pos 0) (pos 0))
       ≡ spot (pos 30) (pos 0) ∷ []
   pub halves-first :
-      curves.cubicPoints 8 (spot (pos 33) (pos 255)) (spot (pos 301) (pos 400)) (spot (pos 200) (below 207))
-      (spot (below 3) (pos 5))
+      curves.cubicPoints mostSplits (spot (pos 33) (pos 255)) (spot (pos 301) (pos 400))
+      (spot (pos 200) (below 207)) (spot (below 3) (pos 5))
       ≡ spot (pos 125) (below 26) ∷ spot (pos 191) (pos 104) ∷ spot (pos 168) (pos 247)
       ∷ spot (pos 33) (pos 255) ∷ []
+  -- as curved as one can be: halved 8 times over
+  pub most-lines :
+      length (curves.cubicPoints mostSplits (spot (pos 524288) (pos 0)) (spot (below 524288) (pos 0))
+      (spot (below 524288) (pos 0)) (spot (pos 524288) (pos 0)))
+      ≡ 256
   -- in the band [1, 3): all of a quad in row 3; its control point not; all in row 0
   pub quad-past : curves.quad middle (spot (pos 0) (pos 768)) (spot (pos 10) (pos 800)) (spot (pos 20) (pos 768)) ≡ []
   pub quad-dips :
@@ -466,6 +474,7 @@ values = record {
   middles = (refl, refl, refl);
   a-line-cubic = refl;
   halves-first = refl;
+  most-lines = refl;
   quad-past = refl;
   quad-dips = refl;
   quad-ahead = refl;
