@@ -154,9 +154,12 @@ pub record Trials : Type 0 where
   -- a part that is no number, an infinite one
   pub nan-12 : Draws (label 1 1) (move n0 n0 ++ line n0 notNumber) 1 40 (turned 12 1)
   pub infinite-12 : Draws (label 1 1) (move infinite n0) 1 40 (turned 12 0)
-  -- control points count
-  pub control-12 : Draws (label 1 1) (move n0 n0 ++ quad n2048·004 n0 n0 n0) 1 40 (turned 12 1)
-  pub controls-12 : Draws (label 1 1) (move n0 n0 ++ curve n0 n0 n0 n2048·004 n0 n0) 1 40 (turned 12 1)
+  -- every point of a curve counts
+  pub quad-control-12 : Draws (label 1 1) (move n0 n0 ++ quad n2048·004 n0 n0 n0) 1 40 (turned 12 1)
+  pub quad-end-12 : Draws (label 1 1) (move n0 n0 ++ quad n0 n0 n0 n2048·004) 1 40 (turned 12 1)
+  pub curve-first-12 : Draws (label 1 1) (move n0 n0 ++ curve n2048·004 n0 n0 n0 n0 n0) 1 40 (turned 12 1)
+  pub curve-end-12 : Draws (label 1 1) (move n0 n0 ++ curve n0 n0 n0 n0 n0 n2048·004) 1 40 (turned 12 1)
+  pub curve-second-12 : Draws (label 1 1) (move n0 n0 ++ curve n0 n0 n0 n2048·004 n0 n0) 1 40 (turned 12 1)
   -- 3e38 is killed by xx = 0, an infinite part is not
   pub killed : Draws (under (scale (float n0) (float n1)) (label 1 1)) (move huge n0) 1 40 (drawn 1 1 (0 ∷ []))
   pub not-killed : Draws (under (scale (float n0) (float n1)) (label 1 1)) (move infinite n0) 1 40 (turned 12 0)
@@ -348,6 +351,12 @@ pub record Trials : Type 0 where
       (drawn 1 1
       (0
       ∷ 0 ∷ []))
+  -- no room, but for no cell: what is stored in row 0 is not in the bands of rows 1 and 2
+  pub bands-from-first :
+      InBands 1 (banded NonZero false 4 3 4 1 3) (corners n1 n0 n3 n0 n3 n1 n1 n1) 8 4
+      (drawn 5 0
+      (0 ∷ 0 ∷ 0 ∷ 0
+      ∷ 0 ∷ 0 ∷ 0 ∷ 0 ∷ []))
   -- no rows
   pub bands-empty : InBands 1 (banded NonZero false 4 3 4 2 2) rectangle 0 0 (drawn 5 0 [])
   -- 5, 4 and 8 as at once
@@ -360,6 +369,7 @@ pub record Trials : Type 0 where
   pub box-controls :
       bounds identity (move n0 n0 ++ quad n5 −3 n1 n1 ++ curve −2 n0 n0 n7 n0 n0 ++ close)
       ≡ box −2 −3 n5 n7
+  pub box-ends : bounds identity (move n0 n0 ++ quad n0 n0 n5 −3 ++ curve n0 n0 n0 n0 −2 n7) ≡ box −2 −3 n5 n7
   pub box-moved : bounds (affine n2 n0 n0 n1 n1 n0·5) (move n0 n0 ++ line n1 n2) ≡ box n1 n0·5 n3 n2·5
   pub box-empty : bounds identity [] ≡ box n0 n0 n0 n0
   -- 6 to 12; the point rule is asked for the offset zero
@@ -472,8 +482,11 @@ trials = record {
   near-cut = refl;
   nan-12 = refl;
   infinite-12 = refl;
-  control-12 = refl;
-  controls-12 = refl;
+  quad-control-12 = refl;
+  quad-end-12 = refl;
+  curve-first-12 = refl;
+  curve-end-12 = refl;
+  curve-second-12 = refl;
   killed = refl;
   not-killed = refl;
   offset-12 = refl;
@@ -524,12 +537,14 @@ trials = record {
   none-full = refl;
   last-cell = refl;
   counted = refl;
+  bands-from-first = refl;
   bands-empty = refl;
   bands-few-words = refl;
   bands-short-mask = refl;
   bands-cut = refl;
   k11-box = refl;
   box-controls = refl;
+  box-ends = refl;
   box-moved = refl;
   box-empty = refl;
   box-6 = refl;

@@ -3,6 +3,7 @@ use Prim.Native.Nat.{ℕ}
 use mathlib.Core.Path.{_≡_, refl}
 use mathlib.Core.Bool.{true, false}
 use mathlib.Core.List.{List, [], _∷_, _++_}
+use lib.ListN.{length}
 use lib.IntN.{ℤ, pos, negℤ}
 use lib.Ieee.{ofBits, add, mul, neg}
 use Rattle.geometry.specs.Bits.{float, at}
@@ -10,6 +11,7 @@ use Rattle.command.specs.declared.Command.the-variants.{MoveTo, LineTo, QuadTo,
 use Rattle.sweep.specs.declared.Fill.the-variants.{NonZero, EvenOdd}
 use Rattle.label.specs.declared.Label.{Label}
 use Rattle.paper.specs.Numbers.{_/_, wrapped}
+use Rattle.paper.specs.Steps.{mostDoublings, mostSplits}
 use Rattle.paper.specs.PathList.{four, lengthOf, commandIn}
 use Rattle.paper.specs.Floats.{Spot, moved, shifted, combine, thenTranslate, translation, scale, identity}
 use Rattle.paper.specs.Floats.{fixedOf, near, passes, cell, fraction}
@@ -25,7 +27,7 @@ use Rattle.paper.specs.Lists.{−2048·004, −2048, −3, −1·0005, �
 use Rattle.paper.specs.Lists.{−0, n0·0001, n0·5, n0·999, n1, n1·0002, n2, n3, n4, n5, n6, n7, n8, n9}
 use Rattle.paper.specs.Lists.{n10, n11, n12, n13, n14, n17, n19, n31, n39, n46, n58, n94, n117, n140}
 use Rattle.paper.specs.Lists.{n197, n2048, n2048·0037, n2048·004, n16777216, infinite, notNumber}
-use Rattle.paper.specs.Lists.{affine, banded, label}
+use Rattle.paper.specs.Lists.{affine, banded, label, under, shiftedBy}
 
 abbrev below : ℕ → ℤ  -- −n
 below n = negℤ (pos n)
@@ -192,6 +194,15 @@ pub record Values : Type 0 where
       lines.whole (spot (below 300) (pos 10)) (spot (pos 20) (pos 200))
       ≡ give (pos 26) (pos 12168) ∷ enter (below 1) (pos 0) ∷ give (pos 152) (pos 38912) ∷ enter (pos 0) (pos 0)
       ∷ give (pos 12) (pos 240) ∷ []
+  -- over two next sides; left at once, at 63 by the coarse crossing
+  pub next-next :
+      lines.whole (spot (pos 369) (pos 0)) (spot (pos 255) (pos 566))
+      ≡ give (pos 256) (pos 44544) ∷ enter (pos 1) (pos 1) ∷ give (pos 256) (pos 17920) ∷ enter (pos 1) (pos 2)
+      ∷ give (pos 49) (pos 441) ∷ enter (pos 0) (pos 2) ∷ give (pos 5) (pos 2555) ∷ []
+  pub left-at-once :
+      lines.whole (spot (pos 256) (pos 64)) (spot (pos 255) (pos 256))
+      ≡ give (below 1) (pos 0) ∷ enter (pos 0) (pos 0) ∷ give (pos 193) (pos 98430) ∷ enter (pos 0) (pos 1)
+      ∷ give (pos 0) (pos 0) ∷ []
   -- in the band [1, 3): both ends in row 3; one in row 2; both in row 0; one in row 1; one on either side
   pub past : lines.line middle (spot (pos 0) (pos 768)) (spot (pos 256) (pos 900)) ≡ []
   pub one-not-past :
@@ -208,8 +219,9 @@ pub record Values : Type 0 where
   -- ---- curves, by the points to which their lines go
   -- how often the lines of a quad double, by its bend
   pub doubled :
-      (curves.doublings 16 64 ≡ 0) × (curves.doublings 16 65 ≡ 1) × (curves.doublings 16 256 ≡ 1)
-      × (curves.doublings 16 259 ≡ 1) × (curves.doublings 16 260 ≡ 2) × (curves.doublings 16 2097152 ≡ 8)
+      (curves.doublings mostDoublings 64 ≡ 0) × (curves.doublings mostDoublings 65 ≡ 1)
+      × (curves.doublings mostDoublings 256 ≡ 1) × (curves.doublings mostDoublings 259 ≡ 1)
+      × (curves.doublings mostDoublings 260 ≡ 2) × (curves.doublings mostDoublings 2097152 ≡ 8)
   -- how far the control point is off, on the worse axis
   pub bends :
       (curves.bend (spot (pos 0) (pos 0)) (spot (pos 5) (below 40)) (spot (pos 3) (pos 1)) ≡ 81)
@@ -243,14 +255,19 @@ pub record Values : Type 0 where
   pub middles : (curves.mid odd even ≡ odd) × (curves.mid4 odd even even ≡ odd) × (curves.mid8 odd even even even ≡ odd)
   -- one line; a cubic from (−3,5) by (200,−207) and (301,400) to (33,255): the half at its start comes first
   pub a-line-cubic :
-      curves.cubicPoints 8 (spot (pos 30) (pos 0)) (spot (pos 20) (pos 0)) (spot (pos 10) (pos 0))
+      curves.cubicPoints mostSplits (spot (pos 30) (pos 0)) (spot (pos 20) (pos 0)) (spot (pos 10) (pos 0))
       (spot (pos 0) (pos 0))
       ≡ spot (pos 30) (pos 0) ∷ []
   pub halves-first :
-      curves.cubicPoints 8 (spot (pos 33) (pos 255)) (spot (pos 301) (pos 400)) (spot (pos 200) (below 207))
-      (spot (below 3) (pos 5))
+      curves.cubicPoints mostSplits (spot (pos 33) (pos 255)) (spot (pos 301) (pos 400))
+      (spot (pos 200) (below 207)) (spot (below 3) (pos 5))
       ≡ spot (pos 125) (below 26) ∷ spot (pos 191) (pos 104) ∷ spot (pos 168) (pos 247)
       ∷ spot (pos 33) (pos 255) ∷ []
+  -- as curved as one can be: halved 8 times over
+  pub most-lines :
+      length (curves.cubicPoints mostSplits (spot (pos 524288) (pos 0)) (spot (below 524288) (pos 0))
+      (spot (below 524288) (pos 0)) (spot (pos 524288) (pos 0)))
+      ≡ 256
   -- in the band [1, 3): all of a quad in row 3; its control point not; all in row 0
   pub quad-past : curves.quad middle (spot (pos 0) (pos 768)) (spot (pos 10) (pos 800)) (spot (pos 20) (pos 768)) ≡ []
   pub quad-dips :
@@ -258,6 +275,23 @@ pub record Values : Type 0 where
       ≡ give (pos 0) (pos 0) ∷ enter (pos 0) (pos 2) ∷ give (below 64) (below 640) ∷ give (pos 64) (pos 1856)
       ∷ enter (pos 0) (pos 3) ∷ give (pos 0) (pos 0) ∷ []
   pub quad-ahead : curves.quad middle (spot (pos 0) (pos 255)) (spot (pos 10) (pos 100)) (spot (pos 20) (pos 0)) ≡ []
+  -- a quad that has only its end, and only its start, in the band, from behind it and from before it
+  pub quad-ends-inside :
+      curves.quad middle (spot (pos 0) (pos 769)) (spot (pos 10) (pos 768)) (spot (pos 20) (pos 767))
+      ≡ give (below 1) (below 9) ∷ enter (pos 0) (pos 2) ∷ give (below 1) (below 29) ∷ []
+  pub quad-starts-inside :
+      curves.quad middle (spot (pos 0) (pos 767)) (spot (pos 10) (pos 768)) (spot (pos 20) (pos 769))
+      ≡ give (pos 1) (pos 9) ∷ enter (pos 0) (pos 3) ∷ give (pos 1) (pos 29) ∷ []
+  pub quad-ends-behind :
+      curves.quad middle (spot (pos 0) (pos 254)) (spot (pos 10) (pos 255)) (spot (pos 20) (pos 256))
+      ≡ give (pos 2) (pos 38) ∷ enter (pos 0) (pos 1) ∷ give (pos 0) (pos 0) ∷ []
+  pub quad-starts-behind :
+      curves.quad middle (spot (pos 0) (pos 256)) (spot (pos 10) (pos 255)) (spot (pos 20) (pos 254))
+      ≡ give (pos 0) (pos 0) ∷ enter (pos 0) (pos 0) ∷ give (below 2) (below 40) ∷ []
+  pub quad-over :
+      curves.quad middle (spot (pos 0) (pos 128)) (spot (pos 10) (pos 384)) (spot (pos 20) (pos 128))
+      ≡ give (pos 32) (pos 448) ∷ enter (pos 0) (pos 1) ∷ give (pos 0) (pos 0) ∷ give (pos 0) (pos 0)
+      ∷ enter (pos 0) (pos 0) ∷ give (below 32) (below 768) ∷ []
   -- and of a cubic
   pub cubic-past :
       curves.cubic middle (spot (pos 0) (pos 768)) (spot (pos 10) (pos 800)) (spot (pos 20) (pos 900))
@@ -272,6 +306,36 @@ pub record Values : Type 0 where
       curves.cubic middle (spot (pos 0) (pos 255)) (spot (pos 10) (pos 100)) (spot (pos 20) (pos 0))
       (spot (pos 30) (pos 1))
       ≡ []
+  -- the same of a cubic, and with its second control point alone
+  pub cubic-ends-inside :
+      curves.cubic middle (spot (pos 0) (pos 770)) (spot (pos 10) (pos 769)) (spot (pos 20) (pos 768))
+      (spot (pos 30) (pos 767))
+      ≡ give (below 2) (below 38) ∷ enter (pos 0) (pos 2) ∷ give (below 1) (below 49) ∷ []
+  pub cubic-starts-inside :
+      curves.cubic middle (spot (pos 0) (pos 767)) (spot (pos 10) (pos 768)) (spot (pos 20) (pos 769))
+      (spot (pos 30) (pos 770))
+      ≡ give (pos 1) (pos 9) ∷ enter (pos 0) (pos 3) ∷ give (pos 2) (pos 78) ∷ []
+  pub cubic-ends-behind :
+      curves.cubic middle (spot (pos 0) (pos 253)) (spot (pos 10) (pos 254)) (spot (pos 20) (pos 255))
+      (spot (pos 30) (pos 256))
+      ≡ give (pos 3) (pos 87) ∷ enter (pos 0) (pos 1) ∷ give (pos 0) (pos 0) ∷ []
+  pub cubic-starts-behind :
+      curves.cubic middle (spot (pos 0) (pos 256)) (spot (pos 10) (pos 255)) (spot (pos 20) (pos 254))
+      (spot (pos 30) (pos 253))
+      ≡ give (pos 0) (pos 0) ∷ enter (pos 0) (pos 0) ∷ give (below 3) (below 90) ∷ []
+  pub cubic-first-over :
+      curves.cubic middle (spot (pos 0) (pos 200)) (spot (pos 10) (pos 328)) (spot (pos 20) (pos 200))
+      (spot (pos 30) (pos 200))
+      ≡ []
+  pub cubic-second-over :
+      curves.cubic middle (spot (pos 0) (pos 200)) (spot (pos 10) (pos 200)) (spot (pos 20) (pos 328))
+      (spot (pos 30) (pos 200))
+      ≡ []
+  pub cubic-dips-late :
+      curves.cubic middle (spot (pos 0) (pos 768)) (spot (pos 10) (pos 768)) (spot (pos 20) (pos 640))
+      (spot (pos 30) (pos 768))
+      ≡ give (pos 0) (pos 0) ∷ enter (pos 0) (pos 2) ∷ give (below 48) (below 720) ∷ give (below 6) (below 222)
+      ∷ give (pos 54) (pos 2754) ∷ enter (pos 0) (pos 3) ∷ give (pos 0) (pos 0) ∷ []
   -- ---- cells
   -- what K5 stores
   pub k5-cells :
@@ -332,6 +396,10 @@ pub record Values : Type 0 where
       bandsFrom 5 2 (label 4 5) 0
       ≡ banded NonZero false 4 5 4 0 2 ∷ banded NonZero false 4 5 4 2 4 ∷ banded NonZero false 4 5 4 4 5 ∷ []
   pub bands-of-part : bandsFrom 2 2 (banded EvenOdd true 4 5 6 1 3) 1 ≡ banded EvenOdd true 4 5 6 1 3 ∷ []
+  -- a band has its label's transform and offset
+  pub bands-keep :
+      bandsFrom 1 1 (shiftedBy n7 n8 (under (affine n1 n2 n3 n4 n5 n6) (label 4 1))) 0
+      ≡ shiftedBy n7 n8 (under (affine n1 n2 n3 n4 n5 n6) (label 4 1)) ∷ []
   -- ---- whole numbers of a box
   pub floors :
       (floor (float n0·5) ≡ pos 0) × (floor (float −0·5) ≡ below 1) × (floor (float n3) ≡ pos 3)
@@ -390,6 +458,8 @@ values = record {
   corner-across = refl;
   corner-across-back = refl;
   from-left = refl;
+  next-next = refl;
+  left-at-once = refl;
   past = refl;
   one-not-past = refl;
   ahead = refl;
@@ -404,12 +474,25 @@ values = record {
   middles = (refl, refl, refl);
   a-line-cubic = refl;
   halves-first = refl;
+  most-lines = refl;
   quad-past = refl;
   quad-dips = refl;
   quad-ahead = refl;
+  quad-ends-inside = refl;
+  quad-starts-inside = refl;
+  quad-ends-behind = refl;
+  quad-starts-behind = refl;
+  quad-over = refl;
   cubic-past = refl;
   cubic-dips = refl;
   cubic-ahead = refl;
+  cubic-ends-inside = refl;
+  cubic-starts-inside = refl;
+  cubic-ends-behind = refl;
+  cubic-starts-behind = refl;
+  cubic-first-over = refl;
+  cubic-second-over = refl;
+  cubic-dips-late = refl;
   k5-cells = refl;
   sums-wrap = refl;
   parts = refl;
@@ -421,6 +504,7 @@ values = record {
   pools = (refl, refl, refl, refl, refl, refl, refl, refl, refl);
   bands-of-2 = refl;
   bands-of-part = refl;
+  bands-keep = refl;
   floors = (refl, refl, refl, refl, refl, refl);
   ceils = (refl, refl, refl, refl, refl, refl);
 }
