@@ -7,7 +7,6 @@ use mathlib.Core.List.{List, [], _∷_}
 use lib.Ieee.{ofBits, add, mul, lt, neg, ofInt}
 use lib.ListN.{replicate}
 use Rattle.label.specs.declared.Label.{Label}
-use Rattle.claims.specs.Lists.{corners, n1, n2, n3, label}
 use Rattle.paper.specs.Numbers.{wrapped}
 use Rattle.paper.specs.PathList.{commandIn}
 use Rattle.paper.specs.Floats.{fixedOf}
@@ -16,10 +15,8 @@ use Rattle.paper.specs.Lines as lines
 use Rattle.paper.specs.Cells.{spotIn, marks, stored, cellsOf, known, distinct}
 use Rattle.paper.specs.Bytes.{coverUpTo, areaAt, byteOf, painted}
 use Rattle.paper.specs.Drawing.{accepted, oneFull, inked, drawRead, drawIn, draw, band}
+use Rattle.paper.specs.Lists.{rectangle, label}
 use Rattle.paper.specs.Demands.{number, whole, LongEnough, Piece, Partition, cellsOver}
-
-abbrev rectangle : List ℕ
-rectangle = corners n1 n1 n3 n1 n3 n2 n1 n2
 
 abbrev k1 : Label
 k1 = label 4 3
