@@ -36,6 +36,18 @@ fn examples() -> Vec<Example> {
         LineTo(at(0, 256)),
         Close,
     ];
+    // a triangle within one cell, the same backwards, and away
+    let cancelling = vec![
+        MoveTo(at(320, 320)),
+        LineTo(at(448, 320)),
+        LineTo(at(320, 448)),
+        Close,
+        MoveTo(at(320, 448)),
+        LineTo(at(448, 320)),
+        LineTo(at(320, 320)),
+        Close,
+        MoveTo(at(2560, 2560)),
+    ];
     vec![
         ("K4's triangle", triangle, 2, 1),
         ("down to the right", line(low, high), 3, 2),
@@ -57,6 +69,7 @@ fn examples() -> Vec<Example> {
             3,
             3,
         ),
+        ("figures that cancel", cancelling, 2, 2),
     ]
 }
 

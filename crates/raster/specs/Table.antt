@@ -1,6 +1,6 @@
 -- Worked examples of whole paths, by computation: K4's triangle, a slanted line towards each of the four corners with an upright and a level
--- one back, a quad and a cubic. Their numbers are those of the Rust: `compare cells` prints them from zeno's own
--- storage. Last, two figures that cancel.
+-- one back, a quad, a cubic, and two figures that cancel. The numbers are those of the Rust: `compare cells` prints
+-- them from zeno's own storage.
 use Prim.Native.Nat.{ℕ, _+_}
 use mathlib.Core.Path.{_≡_, refl}
 use mathlib.Core.List.{List, [], _∷_, map}
