@@ -4,6 +4,10 @@
  * Link with target/staticlib/libmosszephyr.a (x86-64), which `rt staticlib mosszephyr` writes at
  * the repository's root. C11 and C++11 can include this file.
  *
+ * What a call answers, and what it leaves in mask and words, is proved. The rules stand whole in
+ * docs/RULES.md; each function's promise, in crates/mosszephyr/src/lib.rt, names the definition
+ * in crates/paper/specs that is its rule.
+ *
  *
  * The path list
  * -------------
