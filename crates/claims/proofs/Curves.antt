@@ -1,4 +1,4 @@
--- Curves: one with every point past one band edge has all its lines there, so that the rule that skips lines skips them already.
+-- Curves: one all of whose points lie past one edge of the band has all its lines there, so that the rule that skips lines skips them already.
 use Prim.Native.Nat.{_≤_, _<_}
 use mathlib.Core.Path.{_≡_, refl, sym}
 use mathlib.Core.Bool.{Bool, true, false, cond, _&&_, _||_, false≢true}

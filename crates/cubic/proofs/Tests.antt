@@ -40,7 +40,7 @@ module _ (k : Cubic) {r : Bool} (e : r ≡ bent (k .p0 .x) (k .p1 .x) (k .p2 .x)
   unfolding curved
   curved-second h f = or-second _ _ e h f
 
--- ---- curves with every point past one band edge
+-- ---- curves all of whose points lie past one edge of the band
 module _ (p q : Bool) (x y : List Mark) where
   first-side : p ≡ true → cond (p || q) x y ≡ x
   first-side h = rw h

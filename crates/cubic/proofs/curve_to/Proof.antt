@@ -1,4 +1,4 @@
--- A curve with every point past one band edge makes no marks; any other is handed to `flatten`. Assumes nothing.
+-- A curve all of whose points lie past one edge of the band makes no marks; any other is handed to `flatten`. Assumes nothing.
 use Rattle.pen.proofs.Adding.{drew-none}
 use Rattle.cubic.proofs.Tests.{all-past, all-ahead, not-all}
 use borrow.Author.Needs.{needs}
