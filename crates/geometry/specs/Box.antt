@@ -1,4 +1,4 @@
--- docs/RULES.md, "From floats to 24.8 numbers": the box around points. Zeros of both signs are a tie.
+-- docs/RULES.md, "Bounds and placement": the box around points. Zeros of both signs are a tie.
 use mathlib.Core.Bool.{Bool, cond, _&&_, _||_}
 use mathlib.Core.List.{List, [], _∷_}
 use lib.Ieee.{Float, binary32, lt, le, sub}

@@ -1,4 +1,4 @@
--- docs/RULES.md, "From floats to 24.8 numbers": where the mask of a box lies.
+-- docs/RULES.md, "Bounds and placement": where the mask of a box lies.
 use Prim.Native.Nat.{ℕ, _*_, _^_}
 use mathlib.Core.Bool.{Bool, true, false, _&&_}
 use lib.Dec.{ltb}

@@ -1,4 +1,4 @@
--- docs/RULES.md, "When a label is turned away" and "From cells to a byte": the whole outcome of a drawing.
+-- docs/RULES.md, "When a label is turned away" and "What a call leaves": the whole outcome of a drawing.
 use Prim.Native.Nat.{ℕ}
 use mathlib.Core.Bool.{Bool, cond}
 use mathlib.Core.List.{List}

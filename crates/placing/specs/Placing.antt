@@ -1,4 +1,4 @@
--- docs/RULES.md, "From floats to 24.8 numbers": bounds and placement of a path list. Of the refusals of
+-- docs/RULES.md, "Bounds and placement": of a path list. Of the refusals of
 -- "When a label is turned away" they know 6 to 12, and bounds judge as for an offset of zero.
 use Prim.Native.Nat.{ℕ}
 use mathlib.Core.Bool.{Bool, true, false}
