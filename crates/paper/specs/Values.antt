@@ -138,6 +138,10 @@ pub record Values : Type 0 where
   -- −0.00390625 is in cell −1, at 255
   pub below-0 : (cell (fixedOf (float −0·0039)) ≡ below 1) × (fraction (fixedOf (float −0·0039)) ≡ pos 255)
   -- ---- lines, by what the pen does
+  -- where a side is crossed, signs left off: by 16,777,214 the first would be 224, by 16,777,216 the last would be 256
+  pub crosses :
+      (lines.crossing (pos 61426) (pos 273) ≡ pos 225) × (lines.crossing (below 61426) (below 273) ≡ pos 225)
+      × (lines.crossing (pos 256) (below 1) ≡ pos 255)
   -- within a cell, down and up
   pub within : lines.whole (spot (pos 10) (pos 20)) (spot (pos 100) (pos 220)) ≡ give (pos 200) (pos 22000) ∷ []
   pub within-up : lines.whole (spot (pos 100) (pos 220)) (spot (pos 10) (pos 20)) ≡ give (below 200) (below 22000) ∷ []
@@ -442,6 +446,7 @@ values = record {
   cells = (refl, refl, refl, refl, refl, refl);
   fractions = (refl, refl, refl, refl, refl, refl);
   below-0 = (refl, refl);
+  crosses = (refl, refl, refl);
   within = refl;
   within-up = refl;
   level = refl;
