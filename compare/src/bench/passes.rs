@@ -114,7 +114,7 @@ pub fn parts(group: &Group, labels: usize) -> Parts {
         }),
         cells: timed(group, labels, |n, _, words| {
             let call = &group.samples[n].call;
-            face::test_cells(call, &call.list, words)
+            face::cells(call, &call.list, words)
         }),
         wiping: timed(group, labels, |n, mask, words| {
             face::draw(&narrow[n], &[], mask, words)

@@ -1,5 +1,4 @@
-//! The port's drawings, bounds and placements of lists, and the cells of a drawing before they are
-//! swept. Slices pass as a pointer and a length.
+//! The port's drawings, bounds and placements of lists. Slices pass as a pointer and a length.
 
 use super::MzTransform;
 use compare::drawing::Drawing;
@@ -40,20 +39,27 @@ struct MzPlacement {
     height: u32,
 }
 
+/// A call's numbers, as the C face takes them.
+#[repr(C)]
+#[derive(Clone, Copy)]
+pub struct MzLabel {
+    transform: MzTransform,
+    offset_x: f32,
+    offset_y: f32,
+    even_odd: bool,
+    up: bool,
+    width: usize,
+    height: usize,
+    pitch: usize,
+    first: usize,
+    end: usize,
+}
+
 extern "C" {
     fn mz_draw(
         list: *const u8,
         list_len: usize,
-        transform: MzTransform,
-        offset_x: f32,
-        offset_y: f32,
-        even_odd: bool,
-        up: bool,
-        width: usize,
-        height: usize,
-        pitch: usize,
-        first: usize,
-        end: usize,
+        label: MzLabel,
         mask: *mut u8,
         mask_len: usize,
         words: *mut u32,
@@ -62,32 +68,10 @@ extern "C" {
     fn mz_draw_in_bands(
         list: *const u8,
         list_len: usize,
-        transform: MzTransform,
-        offset_x: f32,
-        offset_y: f32,
-        even_odd: bool,
-        up: bool,
-        width: usize,
-        height: usize,
-        pitch: usize,
-        first: usize,
-        end: usize,
+        label: MzLabel,
         step: usize,
         mask: *mut u8,
         mask_len: usize,
-        words: *mut u32,
-        words_len: usize,
-    ) -> Drawn;
-    fn mz_test_cells(
-        list: *const u8,
-        list_len: usize,
-        transform: MzTransform,
-        offset_x: f32,
-        offset_y: f32,
-        width: usize,
-        height: usize,
-        first: usize,
-        end: usize,
         words: *mut u32,
         words_len: usize,
     ) -> Drawn;
@@ -116,16 +100,7 @@ pub fn draw(call: &Drawing, list: &[u8], mask: &mut [u8], words: &mut [u32]) -> 
         mz_draw(
             list.as_ptr(),
             list.len(),
-            call.transform.into(),
-            call.offset.x,
-            call.offset.y,
-            call.fill == Fill::EvenOdd,
-            call.up,
-            call.width,
-            call.height,
-            call.pitch,
-            call.first,
-            call.end,
+            call.into(),
             mask.as_mut_ptr(),
             mask.len(),
             words.as_mut_ptr(),
@@ -147,39 +122,10 @@ pub fn draw_in_bands(
         mz_draw_in_bands(
             list.as_ptr(),
             list.len(),
-            call.transform.into(),
-            call.offset.x,
-            call.offset.y,
-            call.fill == Fill::EvenOdd,
-            call.up,
-            call.width,
-            call.height,
-            call.pitch,
-            call.first,
-            call.end,
+            call.into(),
             step,
             mask.as_mut_ptr(),
             mask.len(),
-            words.as_mut_ptr(),
-            words.len(),
-        )
-    }
-}
-
-/// Draws a call's cells into this workspace and leaves them there.
-pub fn test_cells(call: &Drawing, list: &[u8], words: &mut [u32]) -> Drawn {
-    // SAFETY: as for `draw`.
-    unsafe {
-        mz_test_cells(
-            list.as_ptr(),
-            list.len(),
-            call.transform.into(),
-            call.offset.x,
-            call.offset.y,
-            call.width,
-            call.height,
-            call.first,
-            call.end,
             words.as_mut_ptr(),
             words.len(),
         )
@@ -220,5 +166,22 @@ pub fn placement(call: &Placing, list: &[u8]) -> Answer<(Point, Placement)> {
         number: p.number,
         index: p.index,
         rest: (Point::new(p.offset_x, p.offset_y), place),
+    }
+}
+
+impl From<&Drawing> for MzLabel {
+    fn from(call: &Drawing) -> MzLabel {
+        MzLabel {
+            transform: call.transform.into(),
+            offset_x: call.offset.x,
+            offset_y: call.offset.y,
+            even_odd: call.fill == Fill::EvenOdd,
+            up: call.up,
+            width: call.width,
+            height: call.height,
+            pitch: call.pitch,
+            first: call.first,
+            end: call.end,
+        }
     }
 }

@@ -98,7 +98,7 @@ fn simpler(case: &Drawing) -> Candidates<'_, Drawing> {
 fn judged(case: &Drawing) -> Verdict {
     let list = Lent::new(&case.list, BYTE_MARK, Around::Marks);
     let mut words = Lent::new(&case.words, WORD_MARK, Around::Marks);
-    let answer = face::test_cells(case, list.part(), words.part_mut());
+    let answer = face::cells(case, list.part(), words.part_mut());
     keeps(&list, "the list")?;
     keeps(&words, "the workspace")?;
     match driver::drawn(case) {

@@ -6,7 +6,7 @@ use compare::numbers::{Dice, Palette};
 use compare::oracle::{Point, Transform};
 use compare::shrink::{simpler_numbers, Candidates};
 
-/// One function on both sides. Its first six numbers are a transform.
+/// One function on both sides. Where it takes six numbers or more, the first six are a transform.
 pub struct Map<const N: usize> {
     name: &'static str,
     inputs: &'static [&'static str],
@@ -29,7 +29,21 @@ pub const IDENTITY: Map<6> = Map {
     zeno: |_| entries(Transform::IDENTITY),
 };
 
-pub const TRANSFORMS: [Map<6>; 5] = [
+pub const TRANSFORMS: [Map<6>; 7] = [
+    Map {
+        name: "translation",
+        inputs: &["x", "y"],
+        outputs: ENTRIES,
+        ours: |n| entries(face::translation(n[0], n[1])),
+        zeno: |n| entries(Transform::translation(n[0], n[1])),
+    },
+    Map {
+        name: "scale",
+        inputs: &["x", "y"],
+        outputs: ENTRIES,
+        ours: |n| entries(face::scale(n[0], n[1])),
+        zeno: |n| entries(Transform::scale(n[0], n[1])),
+    },
     Map {
         name: "then_scale",
         inputs: &WITH_PAIR,

@@ -1,3 +1,2 @@
-mod Pairs
 mod Drawings
 mod OneOutcome

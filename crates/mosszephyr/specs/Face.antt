@@ -1,39 +1,63 @@
--- How the arguments and the answers of the C face stand for those of `label`.
+-- How the C face's types stand for those of the crates below.
 use Prim.Native.Nat.{ℕ}
-use mathlib.Core.Path.{_≡_}
 use mathlib.Core.Bool.{Bool, true, false}
-use mathlib.Core.List.{List}
-use lib.Ieee.{Float}
-use Rattle.geometry.specs.Affine.{pointOf}
+use Rattle.geometry.specs.declared.Point.{Point}
+use Rattle.geometry.specs.declared.Transform.{Transform}
+use Rattle.geometry.specs.declared.Origin.{Origin}
+use Rattle.geometry.specs.declared.Origin.the-variants.{TopLeft, BottomLeft}
+use Rattle.geometry.specs.Affine.{pointOf, transformOf}
 use Rattle.sweep.specs.declared.Fill.{Fill}
 use Rattle.sweep.specs.declared.Fill.the-variants.{NonZero, EvenOdd}
 use Rattle.label.specs.declared.Label.{Label}
-use Rattle.label.specs.declared.Answer.{Answer}
-use Rattle.label.specs.declared.Numbers.{Numbers}
-use Rattle.label.specs.Draw.{numbersOf}
-use Rattle.label.specs.Inking as inking
+use Rattle.paper.specs.Floats.{zero, identity}
 use Rattle.mosszephyr.specs.declared.MzTransform.{MzTransform}
-use Rattle.mosszephyr.specs.Tests.{outOfC}
+use Rattle.mosszephyr.specs.declared.MzPoint.{MzPoint}
+use Rattle.mosszephyr.specs.declared.MzLabel.{MzLabel}
+
+abbrev pub outOfC : MzTransform → Transform
+outOfC t = transformOf (t .xx) (t .xy) (t .yx) (t .yy) (t .x) (t .y)
+
+abbrev pub inC : Transform → MzTransform
+inC t = record { xx = t .xx; xy = t .xy; yx = t .yx; yy = t .yy; x = t .x; y = t .y }
+
+abbrev pub pointOutOfC : MzPoint → Point
+pointOutOfC p = pointOf (p .x) (p .y)
+
+abbrev pub pointInC : Point → MzPoint
+pointInC p = record { x = p .x; y = p .y }
+
+abbrev pub originOf : Bool → Origin
+originOf true = BottomLeft
+originOf false = TopLeft
 
 abbrev pub fillOf : Bool → Fill
 fillOf true = EvenOdd
 fillOf false = NonZero
 
-abbrev pub labelOf : MzTransform → Float → Float → Bool → Bool → ℕ → ℕ → ℕ → ℕ → ℕ → Label
-labelOf t x y evenOdd up width height pitch first end = record {
-  transform = outOfC t;
-  offset = pointOf x y;
-  fill = fillOf evenOdd;
-  up = up;
-  width = width;
-  height = height;
-  pitch = pitch;
-  first = first;
-  end = end;
+abbrev pub labelOf : MzLabel → Label
+labelOf l = record {
+  transform = outOfC (l .transform);
+  offset = pointOf (l .«offset_x») (l .«offset_y»);
+  fill = fillOf (l .«even_odd»);
+  up = l .up;
+  width = l .width;
+  height = l .height;
+  pitch = l .pitch;
+  first = l .first;
+  end = l .end;
 }
 
--- the numbers of an answer with its cells in the words (`label::cells`)
-pub record Celled (l : Label) (s words words′ : List ℕ) (r : Numbers) : Type 0 where
-  pub answer : Answer
-  pub numbers : r ≡ numbersOf answer
-  pub celled : inking.Celled l s 0xffff_ffff_ffff_ffff words words′ answer
+-- the whole label of a size: points as they are, nonzero, down, rows without gaps
+abbrev pub wholeLabel : ℕ → ℕ → MzLabel
+wholeLabel width height = record {
+  transform = inC identity;
+  «offset_x» = zero;
+  «offset_y» = zero;
+  «even_odd» = false;
+  up = false;
+  width = width;
+  height = height;
+  pitch = width;
+  first = 0;
+  end = height;
+}

@@ -1,9 +1,5 @@
-// The C face (bindings/mosszephyr.h): mz_draw, mz_draw_in_bands, mz_bounds and mz_placement. Each function is thin: it hands its numbers to a
-// crate below, whose promise is its own. The functions named mz_test_ serve the runs against the Rust and nothing else.
-use geometry::Bounds;
+// The C face (bindings/mosszephyr.h). Each function is thin: it hands its arguments to a crate below, in that crate's types.
 use geometry::Origin;
-use geometry::Placed;
-use geometry::Placement;
 use geometry::Point;
 use geometry::Transform;
 use label::Label;
@@ -12,14 +8,11 @@ use placing::BoxNumbers;
 use placing::PlaceNumbers;
 use sweep::Fill;
 ghost use mathlib.Core.Path.{_≡_};
-ghost use mathlib.Core.Bool.{false};
 ghost use Rattle.geometry.specs.Affine.{pointOf};
-ghost use Rattle.geometry.specs.Placing.{placedOf};
 ghost use Rattle.paper.specs.Floats.{identity, scale, translation, combine, thenTranslate, moved, movedVector};
 ghost use Rattle.paper.specs.Drawing.{left, draw, drawInBands};
-ghost use Rattle.paper.specs.Placing.{boxOf, bounds as boundsOf, placement as placementOf};
-ghost use Rattle.mosszephyr.specs.Face.{fillOf, labelOf, Celled};
-ghost use Rattle.mosszephyr.specs.Tests.{inC, outOfC, pointInC, pointOutOfC, boxInC, boxOutOfC, originOf, placedInC, pairsOf};
+ghost use Rattle.paper.specs.Placing.{bounds as boundsOf, placement as placementOf};
+ghost use Rattle.mosszephyr.specs.Face.{inC, outOfC, pointInC, originOf, fillOf, labelOf, wholeLabel};
 
 #[repr(C)]
 pub struct MzTransform {
@@ -31,6 +24,26 @@ pub struct MzTransform {
     pub y: f32,
 }
 
+#[repr(C)]
+pub struct MzPoint {
+    pub x: f32,
+    pub y: f32,
+}
+
+#[repr(C)]
+pub struct MzLabel {
+    pub transform: MzTransform,
+    pub offset_x: f32,
+    pub offset_y: f32,
+    pub even_odd: bool,
+    pub up: bool,
+    pub width: usize,
+    pub height: usize,
+    pub pitch: usize,
+    pub first: usize,
+    pub end: usize,
+}
+
 // What the calls answer, in the rules' numbers.
 pub type MzDrawn = Numbers;
 
@@ -38,13 +51,15 @@ pub type MzBounds = BoxNumbers;
 
 pub type MzPlacement = PlaceNumbers;
 
-fn transform_of(t: MzTransform) -> Transform
+// ---- the face's types as those of the crates below, and back
+
+pub fn transform_of(t: MzTransform) -> Transform
     ensures { λ r. ⌜ r ≡ outOfC t ⌝ }
 {
     Transform::new(t.xx, t.xy, t.yx, t.yy, t.x, t.y)
 }
 
-fn origin_of(bottom_left: bool) -> Origin
+pub fn origin_of(bottom_left: bool) -> Origin
     ensures { λ r. ⌜ r ≡ originOf «bottom_left» ⌝ }
 {
     if bottom_left {
@@ -62,30 +77,59 @@ fn fill_of(even_odd: bool) -> Fill
     Fill::NonZero
 }
 
-fn label_of(
-    transform: MzTransform,
-    offset_x: f32,
-    offset_y: f32,
-    even_odd: bool,
-    up: bool,
-    width: usize,
-    height: usize,
-    pitch: usize,
-    first: usize,
-    end: usize,
-) -> Label
-    ensures { λ r. ⌜ r ≡ labelOf transform «offset_x» «offset_y» «even_odd» up width height pitch first end ⌝ }
+pub fn label_of(l: MzLabel) -> Label
+    ensures { λ r. ⌜ r ≡ labelOf l ⌝ }
 {
     Label {
-        transform: transform_of(transform),
-        offset: Point::new(offset_x, offset_y),
-        fill: fill_of(even_odd),
-        up,
+        transform: transform_of(l.transform),
+        offset: Point::new(l.offset_x, l.offset_y),
+        fill: fill_of(l.even_odd),
+        up: l.up,
+        width: l.width,
+        height: l.height,
+        pitch: l.pitch,
+        first: l.first,
+        end: l.end,
+    }
+}
+
+fn mz_transform(t: Transform) -> MzTransform
+    ensures { λ r. ⌜ r ≡ inC t ⌝ }
+{
+    MzTransform {
+        xx: t.xx,
+        xy: t.xy,
+        yx: t.yx,
+        yy: t.yy,
+        x: t.x,
+        y: t.y,
+    }
+}
+
+pub fn mz_point(p: Point) -> MzPoint
+    ensures { λ r. ⌜ r ≡ pointInC p ⌝ }
+{
+    MzPoint { x: p.x, y: p.y }
+}
+
+// ---- drawing
+
+// The whole label of a size, as most are drawn.
+#[no_mangle]
+pub extern "C" fn mz_label(width: usize, height: usize) -> MzLabel
+    ensures { λ r. ⌜ r ≡ wholeLabel width height ⌝ }
+{
+    MzLabel {
+        transform: mz_identity(),
+        offset_x: 0.0,
+        offset_y: 0.0,
+        even_odd: false,
+        up: false,
         width,
         height,
-        pitch,
-        first,
-        end,
+        pitch: width,
+        first: 0,
+        end: height,
     }
 }
 
@@ -93,74 +137,32 @@ fn label_of(
 #[no_mangle]
 pub extern "C" fn mz_draw(
     list: &[u8],
-    transform: MzTransform,
-    offset_x: f32,
-    offset_y: f32,
-    even_odd: bool,
-    up: bool,
-    width: usize,
-    height: usize,
-    pitch: usize,
-    first: usize,
-    end: usize,
+    label: MzLabel,
     mask: &mut [u8],
     words: &mut [u32],
 ) -> MzDrawn
     ensures { λ r. ⌜ left r (now (mask .exit)) (now (words .exit))
-        ≡ draw (labelOf transform «offset_x» «offset_y» «even_odd» up width height pitch first end)
-        (now (list .entry)) (now (mask .entry)) (now (words .entry)) ⌝ }
+        ≡ draw (labelOf label) (now (list .entry)) (now (mask .entry)) (now (words .entry)) ⌝ }
 {
-    let label = label_of(
-        transform,
-        offset_x,
-        offset_y,
-        even_odd,
-        up,
-        width,
-        height,
-        pitch,
-        first,
-        end,
-    );
-    paper::draw(list, label, mask, words)
+    paper::draw(list, label_of(label), mask, words)
 }
 
 // Draws the same in bands of `step` rows, with less room.
 #[no_mangle]
 pub extern "C" fn mz_draw_in_bands(
     list: &[u8],
-    transform: MzTransform,
-    offset_x: f32,
-    offset_y: f32,
-    even_odd: bool,
-    up: bool,
-    width: usize,
-    height: usize,
-    pitch: usize,
-    first: usize,
-    end: usize,
+    label: MzLabel,
     step: usize,
     mask: &mut [u8],
     words: &mut [u32],
 ) -> MzDrawn
     ensures { λ r. ⌜ left r (now (mask .exit)) (now (words .exit))
-        ≡ drawInBands step (labelOf transform «offset_x» «offset_y» «even_odd» up width height pitch first end)
-        (now (list .entry)) (now (mask .entry)) (now (words .entry)) ⌝ }
+        ≡ drawInBands step (labelOf label) (now (list .entry)) (now (mask .entry)) (now (words .entry)) ⌝ }
 {
-    let label = label_of(
-        transform,
-        offset_x,
-        offset_y,
-        even_odd,
-        up,
-        width,
-        height,
-        pitch,
-        first,
-        end,
-    );
-    paper::draw_in_bands(list, label, step, mask, words)
+    paper::draw_in_bands(list, label_of(label), step, mask, words)
 }
+
+// ---- where a list lies
 
 // The box of a list's transformed points.
 #[no_mangle]
@@ -189,195 +191,74 @@ pub extern "C" fn mz_placement(
     )
 }
 
-// ---- for the runs against the Rust
-
-// Draws as mz_draw does with pitch = width and a mask long enough, but leaves the cells of an accepted list in the words.
-#[no_mangle]
-pub extern "C" fn mz_test_cells(
-    list: &[u8],
-    transform: MzTransform,
-    offset_x: f32,
-    offset_y: f32,
-    width: usize,
-    height: usize,
-    first: usize,
-    end: usize,
-    words: &mut [u32],
-) -> MzDrawn
-    ensures { λ r. ⌜ Celled (labelOf transform «offset_x» «offset_y» false false width height width first end) (now (list .entry))
-        (now (words .entry)) (now (words .exit)) r ⌝ }
-{
-    let label = label_of(
-        transform,
-        offset_x,
-        offset_y,
-        false,
-        false,
-        width,
-        height,
-        width,
-        first,
-        end,
-    );
-    label::numbers_of(label::cells(list, label, 0xffff_ffff_ffff_ffff, words))
-}
-
-#[repr(C)]
-pub struct MzPoint {
-    pub x: f32,
-    pub y: f32,
-}
-
-#[repr(C)]
-pub struct MzBox {
-    pub min: MzPoint,
-    pub max: MzPoint,
-}
-
-#[repr(C)]
-pub struct MzPlaced {
-    pub placed: bool,
-    pub offset: MzPoint,
-    pub left: i32,
-    pub top: i32,
-    pub width: u32,
-    pub height: u32,
-}
-
-fn mz_transform(t: Transform) -> MzTransform
-    ensures { λ r. ⌜ r ≡ inC t ⌝ }
-{
-    MzTransform {
-        xx: t.xx,
-        xy: t.xy,
-        yx: t.yx,
-        yy: t.yy,
-        x: t.x,
-        y: t.y,
-    }
-}
-
-fn mz_point(p: Point) -> MzPoint
-    ensures { λ r. ⌜ r ≡ pointInC p ⌝ }
-{
-    MzPoint { x: p.x, y: p.y }
-}
-
-fn mz_box(b: Bounds) -> MzBox
-    ensures { λ r. ⌜ r ≡ boxInC b ⌝ }
-{
-    MzBox {
-        min: mz_point(b.min),
-        max: mz_point(b.max),
-    }
-}
-
-fn mz_placed(p: Placed) -> MzPlaced
-    ensures { λ r. ⌜ r ≡ placedInC p ⌝ }
-{
-    match p {
-        Placed::At { offset, placement } => MzPlaced {
-            placed: true,
-            offset: mz_point(offset),
-            left: placement.left,
-            top: placement.top,
-            width: placement.width,
-            height: placement.height,
-        },
-        Placed::Outside => MzPlaced {
-            placed: false,
-            offset: MzPoint { x: 0.0, y: 0.0 },
-            left: 0,
-            top: 0,
-            width: 0,
-            height: 0,
-        },
-    }
-}
+// ---- transforms
 
 #[no_mangle]
-pub extern "C" fn mz_test_identity() -> MzTransform
+pub extern "C" fn mz_identity() -> MzTransform
     ensures { λ r. ⌜ r ≡ inC identity ⌝ }
 {
     mz_transform(Transform::identity())
 }
 
 #[no_mangle]
-pub extern "C" fn mz_test_then_scale(t: MzTransform, x: f32, y: f32) -> MzTransform
+pub extern "C" fn mz_translation(x: f32, y: f32) -> MzTransform
+    ensures { λ r. ⌜ r ≡ inC (translation x y) ⌝ }
+{
+    mz_transform(Transform::translation(x, y))
+}
+
+#[no_mangle]
+pub extern "C" fn mz_scale(x: f32, y: f32) -> MzTransform
+    ensures { λ r. ⌜ r ≡ inC (scale x y) ⌝ }
+{
+    mz_transform(Transform::scale(x, y))
+}
+
+#[no_mangle]
+pub extern "C" fn mz_then(t: MzTransform, next: MzTransform) -> MzTransform
+    ensures { λ r. ⌜ r ≡ inC (combine (outOfC t) (outOfC next)) ⌝ }
+{
+    mz_transform(transform_of(t).then(transform_of(next)))
+}
+
+#[no_mangle]
+pub extern "C" fn mz_then_scale(t: MzTransform, x: f32, y: f32) -> MzTransform
     ensures { λ r. ⌜ r ≡ inC (combine (outOfC t) (scale x y)) ⌝ }
 {
     mz_transform(transform_of(t).then_scale(x, y))
 }
 
 #[no_mangle]
-pub extern "C" fn mz_test_then_translate(t: MzTransform, x: f32, y: f32) -> MzTransform
+pub extern "C" fn mz_then_translate(t: MzTransform, x: f32, y: f32) -> MzTransform
     ensures { λ r. ⌜ r ≡ inC (thenTranslate (outOfC t) x y) ⌝ }
 {
     mz_transform(transform_of(t).then_translate(x, y))
 }
 
 #[no_mangle]
-pub extern "C" fn mz_test_then(t: MzTransform, u: MzTransform) -> MzTransform
-    ensures { λ r. ⌜ r ≡ inC (combine (outOfC t) (outOfC u)) ⌝ }
-{
-    mz_transform(transform_of(t).then(transform_of(u)))
-}
-
-#[no_mangle]
-pub extern "C" fn mz_test_pre_scale(t: MzTransform, x: f32, y: f32) -> MzTransform
+pub extern "C" fn mz_pre_scale(t: MzTransform, x: f32, y: f32) -> MzTransform
     ensures { λ r. ⌜ r ≡ inC (combine (scale x y) (outOfC t)) ⌝ }
 {
     mz_transform(transform_of(t).pre_scale(x, y))
 }
 
 #[no_mangle]
-pub extern "C" fn mz_test_pre_translate(t: MzTransform, x: f32, y: f32) -> MzTransform
+pub extern "C" fn mz_pre_translate(t: MzTransform, x: f32, y: f32) -> MzTransform
     ensures { λ r. ⌜ r ≡ inC (combine (translation x y) (outOfC t)) ⌝ }
 {
     mz_transform(transform_of(t).pre_translate(x, y))
 }
 
 #[no_mangle]
-pub extern "C" fn mz_test_transform_point(t: MzTransform, p: MzPoint) -> MzPoint
-    ensures { λ r. ⌜ r ≡ pointInC (moved (outOfC t) (pointOutOfC p)) ⌝ }
+pub extern "C" fn mz_transform_point(t: MzTransform, x: f32, y: f32) -> MzPoint
+    ensures { λ r. ⌜ r ≡ pointInC (moved (outOfC t) (pointOf x y)) ⌝ }
 {
-    mz_point(transform_of(t).transform_point(Point::new(p.x, p.y)))
+    mz_point(transform_of(t).transform_point(Point::new(x, y)))
 }
 
 #[no_mangle]
-pub extern "C" fn mz_test_transform_vector(t: MzTransform, p: MzPoint) -> MzPoint
-    ensures { λ r. ⌜ r ≡ pointInC (movedVector (outOfC t) (pointOutOfC p)) ⌝ }
+pub extern "C" fn mz_transform_vector(t: MzTransform, x: f32, y: f32) -> MzPoint
+    ensures { λ r. ⌜ r ≡ pointInC (movedVector (outOfC t) (pointOf x y)) ⌝ }
 {
-    mz_point(transform_of(t).transform_vector(Point::new(p.x, p.y)))
-}
-
-// The box around points, x and y alternating; an odd last number is left out.
-#[no_mangle]
-pub extern "C" fn mz_test_box(points: &[f32]) -> MzBox
-    ensures { λ r. ⌜ r ≡ boxInC (boxOf (pairsOf (now (points .entry)))) ⌝ }
-{
-    if points.len() < 2 {
-        return mz_box(Bounds::of(Point::new(0.0, 0.0)));
-    }
-    let mut around = Bounds::of(Point::new(points[0], points[1]));
-    let mut i = 2;
-    while i < points.len() - 1 {
-        around = around.add(Point::new(points[i], points[i + 1]));
-        i += 2;
-    }
-    mz_box(around)
-}
-
-#[no_mangle]
-pub extern "C" fn mz_test_place(b: MzBox, offset: MzPoint, bottom_left: bool) -> MzPlaced
-    ensures { λ r. ⌜ r ≡ placedInC (placedOf (originOf «bottom_left») (pointOutOfC offset) (boxOutOfC b)) ⌝ }
-{
-    let min = Point::new(b.min.x, b.min.y);
-    let max = Point::new(b.max.x, b.max.y);
-    let bounds = Bounds::new(min, max);
-    mz_placed(Placement::compute(
-        origin_of(bottom_left),
-        Point::new(offset.x, offset.y),
-        bounds,
-    ))
+    mz_point(transform_of(t).transform_vector(Point::new(x, y)))
 }

@@ -1,0 +1,3 @@
+mod Pairs
+mod Cells
+mod OneOutcome
