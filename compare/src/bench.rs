@@ -1,8 +1,8 @@
 //! The port against zeno over `HeapStorage`: the same labels, one process, both in release.
 //!
-//! Zeno takes commands and a mask of zeros; it keeps its storage from label to label and never clears
-//! a mask. The port reads and judges a list of bytes, writes every byte of the label and leaves its
-//! workspace wiped. So a mask is cleared for zeno outside and inside the timing, and both are told.
+//! Zeno takes commands and a mask of zeros, and keeps its storage from label to label: as it is used,
+//! the mask is cleared for each label. The port reads and judges a list of bytes, writes every byte
+//! of the label and leaves its workspace wiped: it needs nothing cleared.
 
 mod passes;
 mod samples;
@@ -11,7 +11,7 @@ use std::time::Duration;
 
 use crate::runs::Stopped;
 use compare::flags::Flags;
-use passes::{Parts, Workspace};
+use passes::{Pass, ZenoPass};
 use samples::Group;
 
 pub const USAGE: &str = "compare bench [--labels N] [--rounds N] [--only text|curves|lines]";
@@ -20,7 +20,7 @@ pub fn bench(words: &[String]) -> Result<(), Stopped> {
     let known = ["--labels", "--rounds", "--only"];
     let flags = Flags::read(words, &known).map_err(Stopped::Asked)?;
     let labels = flags.number("--labels", 5000).map_err(Stopped::Asked)?;
-    let rounds = flags.number("--rounds", 3).map_err(Stopped::Asked)?;
+    let rounds = flags.number("--rounds", 5).map_err(Stopped::Asked)?.max(1);
     let is_asked = |name: &str| flags.word("--only").is_none_or(|only| only == name);
     let groups: Vec<Group> = samples::GROUPS
         .iter()
@@ -34,120 +34,152 @@ pub fn bench(words: &[String]) -> Result<(), Stopped> {
     for group in &groups {
         passes::both_agree(group).map_err(Stopped::Different)?;
     }
-    times(&groups, labels as usize, rounds as usize);
-    shares(&groups, labels as usize, rounds as usize);
-    in_bands(&groups, labels as usize, rounds as usize);
+    let timed: Vec<Timed> = groups
+        .iter()
+        .map(|group| Timed::new(group, labels as usize, rounds))
+        .collect();
+    as_used(&timed, labels, rounds);
+    shares(&timed);
+    other_ways(&timed);
     Ok(())
 }
 
-const TIMES: &str = "\
-| labels | count | cells | words | zeno | zeno, clearing | port | ratio | port, clearing | ratio | \
-port, 16,384 places | ratio | the same, clearing | ratio |
-|---|---|---|---|---|---|---|---|---|---|---|---|---|---|";
+/// What is timed of the port beside a whole drawing, each once in a round.
+const PARTS: [Pass; 3] = [Pass::Judging, Pass::Cells, Pass::Wiping];
+const OTHERS: [Pass; 4] = [
+    Pass::Roomy,
+    Pass::InBands(256),
+    Pass::InBands(64),
+    Pass::InBands(16),
+];
 
-/// Milliseconds a label, the best of so many rounds. Ratios with clearing are to zeno with clearing.
-fn times(groups: &[Group], labels: usize, rounds: usize) {
-    println!(
-        "Milliseconds a label, best of {rounds} rounds. \"Clearing\": the mask is set to zero"
-    );
-    println!("inside the timing. The workspace fits the label, or has 16,384 places.\n\n{TIMES}");
-    for group in groups {
-        let mut zeno = [Duration::MAX; 2];
-        let mut port = [Duration::MAX; 4];
+/// One label's time in milliseconds, round by round.
+struct Rounds(Vec<f64>);
+
+impl Rounds {
+    fn best(&self) -> f64 {
+        self.0.iter().copied().fold(f64::INFINITY, f64::min)
+    }
+
+    /// By how much the slowest round is above the best, in hundredths.
+    fn spread(&self) -> f64 {
+        let worst = self.0.iter().copied().fold(0.0, f64::max);
+        100.0 * (worst / self.best() - 1.0)
+    }
+}
+
+/// All that was timed of a group. Zeno's parts are those of its best round.
+struct Timed<'a> {
+    group: &'a Group,
+    zeno: Rounds,
+    zeno_parts: ZenoPass,
+    whole: Rounds,
+    parts: [Rounds; 3],
+    others: [Rounds; 4],
+}
+
+impl Timed<'_> {
+    /// The passes of a round stand beside each other, so that a slow moment meets both sides.
+    fn new(group: &Group, labels: usize, rounds: u64) -> Timed<'_> {
+        let mut zeno: Vec<ZenoPass> = Vec::new();
+        let mut timed = Timed {
+            group,
+            zeno: Rounds(Vec::new()),
+            zeno_parts: ZenoPass::default(),
+            whole: Rounds(Vec::new()),
+            parts: PARTS.map(|_| Rounds(Vec::new())),
+            others: OTHERS.map(|_| Rounds(Vec::new())),
+        };
         for _ in 0..rounds {
-            let pass = passes::zeno(group, labels);
-            zeno = [zeno[0].min(pass.drawing), zeno[1].min(pass.clearing_too)];
-            let asked = [Workspace::Fits, Workspace::Large];
-            for (at, workspace) in asked.into_iter().enumerate() {
-                let pass = passes::port(group, labels, workspace);
-                port[2 * at] = port[2 * at].min(pass.drawing);
-                port[2 * at + 1] = port[2 * at + 1].min(pass.clearing_too);
+            zeno.push(passes::zeno(group, labels));
+            timed.whole.0.push(passes::port(group, labels, Pass::Whole));
+            for (into, pass) in timed.parts.iter_mut().zip(PARTS) {
+                into.0.push(passes::port(group, labels, pass));
+            }
+            for (into, pass) in timed.others.iter_mut().zip(OTHERS) {
+                into.0.push(passes::port(group, labels.div_ceil(10), pass));
             }
         }
-        println!("{}", row(group, labels, &zeno, &port));
+        timed.zeno = Rounds(zeno.iter().map(ZenoPass::whole).collect());
+        let best = zeno
+            .into_iter()
+            .min_by(|a, b| a.whole().total_cmp(&b.whole()));
+        timed.zeno_parts = best.unwrap_or_default();
+        timed
     }
 }
 
-fn row(group: &Group, labels: usize, zeno: &[Duration; 2], port: &[Duration; 4]) -> String {
-    let ms = |time: Duration| 1000.0 * time.as_secs_f64() / labels as f64;
-    let mut row = format!(
-        "| {} | {labels} | {} | {} | {:.4} | {:.4} |",
-        group.name,
-        group.mean_cells(),
-        group.mean_words(),
-        ms(zeno[0]),
-        ms(zeno[1])
+/// A table's row: the group's name and these cells.
+fn row(timed: &Timed, cells: &[String]) {
+    println!("| {} | {} |", timed.group.name, cells.join(" | "));
+}
+
+fn ms(time: f64) -> String {
+    format!("{time:.4}")
+}
+
+fn as_used(all: &[Timed], labels: u64, rounds: u64) {
+    println!("As each side is used, milliseconds a label, {labels} labels a round, the best of");
+    println!("{rounds} rounds, and by how many hundredths the slowest round is above it.\n");
+    println!(
+        "| labels | cells | words | zeno, clearing its mask | spread | port | spread | ratio |"
     );
-    for (at, &time) in port.iter().enumerate() {
-        let ratio = time.as_secs_f64() / zeno[at % 2].as_secs_f64();
-        row += &format!(" {:.4} | {ratio:.2} |", ms(time));
+    println!("|---|---|---|---|---|---|---|---|");
+    for timed in all {
+        let (zeno, port) = (timed.zeno.best(), timed.whole.best());
+        let cells = [
+            timed.group.mean_cells().to_string(),
+            timed.group.mean_words().to_string(),
+            ms(zeno),
+            format!("{:.0} %", timed.zeno.spread()),
+            ms(port),
+            format!("{:.0} %", timed.whole.spread()),
+            format!("{:.2}", port / zeno),
+        ];
+        row(timed, &cells);
     }
-    row
 }
-
-const SHARES: &str = "\
-| labels | zeno's path | zeno's sweep | port | judging | path | sweep | wiping |
-|---|---|---|---|---|---|---|---|";
 
 /// Where the time goes, as far as calls can tell.
-fn shares(groups: &[Group], labels: usize, rounds: usize) {
-    println!("\nWhere the time goes, milliseconds a label, the workspace fitting, no clearing.");
+fn shares(all: &[Timed]) {
+    println!("\nWhere the time of the first table goes. Judging: the same list with a byte too");
+    println!("many, refused after its last record. Wiping: an empty list and no width. Path: the");
+    println!("cells left unswept, less judging and half of the wiping. Sweep: the rest.\n");
     println!(
-        "Judging: the same list with a byte too many, refused after its last record. Wiping: an"
+        "| labels | zeno's clearing | path | sweep | port's judging | path | sweep | wiping |"
     );
-    println!("empty list and no width. Path: the cells left unswept, less judging and half of the");
-    println!(
-        "wiping. Sweep: the rest. For a finer view: perf record target/compare/release/compare"
-    );
-    println!("bench --only text, then perf annotate on mz_draw.\n\n{SHARES}");
-    for group in groups {
-        let mut least = Parts::most();
-        for _ in 0..rounds {
-            least = least.least(passes::parts(group, labels));
-        }
-        let ms = |time: Duration| 1000.0 * time.as_secs_f64() / labels as f64;
-        let Parts {
-            zeno_path,
-            zeno_sweep,
-            whole,
-            judging,
-            cells,
-            wiping,
-        } = least;
-        let path = cells.saturating_sub(judging + wiping / 2);
-        let sweep = whole.saturating_sub(judging + path + wiping);
-        let times = [zeno_path, zeno_sweep, whole, judging, path, sweep, wiping];
-        let cells: Vec<String> = times.iter().map(|&t| format!("{:.4}", ms(t))).collect();
-        println!("| {} | {} |", group.name, cells.join(" | "));
+    println!("|---|---|---|---|---|---|---|---|");
+    for timed in all {
+        let ZenoPass {
+            clearing,
+            path: zeno_path,
+            sweep: zeno_sweep,
+        } = timed.zeno_parts;
+        let [judging, cells, wiping] = [0, 1, 2].map(|at: usize| timed.parts[at].best());
+        let path = (cells - judging - wiping / 2.0).max(0.0);
+        let sweep = (timed.whole.best() - judging - path - wiping).max(0.0);
+        let times = [
+            clearing, zeno_path, zeno_sweep, judging, path, sweep, wiping,
+        ];
+        row(timed, &times.map(ms));
     }
 }
 
-/// Rows of a band.
-const STEPS: [usize; 3] = [256, 64, 16];
-
-/// The port at once and in bands, each of which reads the list anew, twice.
-fn in_bands(groups: &[Group], labels: usize, rounds: usize) {
-    println!("\nIn bands of so many rows, milliseconds a label, the workspace fitting at once.\n");
-    let heads: Vec<String> = STEPS
-        .iter()
-        .map(|step| format!("bands of {step}"))
-        .collect();
-    println!("| labels | at once | {} |", heads.join(" | "));
-    println!("|---|---|{}", "---|".repeat(STEPS.len()));
-    for group in groups {
-        let least = |step: Option<usize>| {
-            let times = (0..rounds).map(|_| passes::in_bands(group, labels, step));
-            1000.0 * times.min().unwrap_or_default().as_secs_f64() / labels as f64
-        };
-        let steps = STEPS
-            .iter()
-            .map(|&step| format!("{:.4}", least(Some(step))));
-        let cells: Vec<String> = steps.collect();
-        println!(
-            "| {} | {:.4} | {} |",
-            group.name,
-            least(None),
-            cells.join(" | ")
-        );
+/// The port with more room than it needs, and in bands, each of which reads the list anew, twice.
+fn other_ways(all: &[Timed]) {
+    println!(
+        "\nThe port with a pool of 16,384 places, and in bands of so many rows, milliseconds a"
+    );
+    println!("label, a tenth of the labels.\n");
+    println!("| labels | 16,384 places | bands of 256 | bands of 64 | bands of 16 |");
+    println!("|---|---|---|---|---|");
+    for timed in all {
+        let times: Vec<String> = timed.others.iter().map(|times| ms(times.best())).collect();
+        row(timed, &times);
     }
+}
+
+/// Milliseconds of one label of so many.
+fn each(time: Duration, labels: usize) -> f64 {
+    1000.0 * time.as_secs_f64() / labels as f64
 }

@@ -1,15 +1,16 @@
 //! Gives the same inputs to zeno and to the port and compares every answer.
 //!
-//!     compare [--seed S] [--scale N] [--only KIND]
+//!     compare [--seed S] [--scale N] [--share N] [--only KIND]
 //!     compare bench [--labels N] [--rounds N] [--only text|curves|lines]
 //!     compare fixture OUT
 //!     compare fuzz --seconds N [--seed S]
 //!     compare cells
 //!
 //! Without words it is the run of the gate: fixed seed, fixed counts. `--scale` multiplies the counts
-//! that are not exhaustive (`--only drawings --scale 20` draws five million labels), `--only` takes a
-//! group or words of a kind's name. It prints how many cases of which kind were compared, and stops
-//! with status 1 at the first difference, which it tells in the smallest form that it finds.
+//! that are not exhaustive (`--only drawings --scale 20` draws five million labels), `--share` takes
+//! one case in so many of these, the first ones, and `--only` a group or words of a kind's name. It
+//! prints how many cases of which kind were compared, and stops with status 1 at the first
+//! difference, which it tells in the smallest form that it finds.
 //!
 //! `bench` times both sides, `fixture` writes answers for another program to replay, zeno's and, for
 //! refusals, the reading's, `fuzz` throws damaged and random calls at the port with marks around all

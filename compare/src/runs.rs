@@ -15,14 +15,16 @@ use compare::paths::Character;
 use drawings::{Boundaries, Drawings, SmallDrawings};
 use in_bands::InBands;
 
-pub const USAGE: &str = "compare [--seed S] [--scale N] [--only KIND]";
+pub const USAGE: &str = "compare [--seed S] [--scale N] [--share N] [--only KIND]";
 
 const SEED: u64 = 20_260_101;
 
 /// A run as it was asked for, the group it is in, and what it has counted.
 struct Run<'a> {
     seed: u64,
+    /// Cases of each drawn kind: times the scale, and of these one in `share`.
     scale: u64,
+    share: u64,
     only: Option<&'a str>,
     group: &'static str,
     total: u64,
@@ -50,10 +52,12 @@ pub enum Stopped {
 
 /// Runs every kind, or those that are asked for, and prints what was compared.
 pub fn compared(words: &[String]) -> Result<(), Stopped> {
-    let flags = Flags::read(words, &["--seed", "--scale", "--only"]).map_err(Stopped::Asked)?;
+    let named = ["--seed", "--scale", "--share", "--only"];
+    let flags = Flags::read(words, &named).map_err(Stopped::Asked)?;
     let mut run = Run {
         seed: flags.number("--seed", SEED).map_err(Stopped::Asked)?,
         scale: flags.number("--scale", 1).map_err(Stopped::Asked)?,
+        share: flags.number("--share", 1).map_err(Stopped::Asked)?.max(1),
         only: flags.word("--only"),
         group: "",
         total: 0,
@@ -87,9 +91,9 @@ impl Run<'_> {
         }
     }
 
-    /// Runs so many cases of a kind, times the scale.
+    /// Runs so many cases of a kind that is drawn by dice, times the scale and by the share.
     fn scaled(&mut self, kind: &impl Kind, count: u64) -> Result<(), String> {
-        self.counted(kind, count * self.scale)
+        self.counted(kind, (count * self.scale).div_ceil(self.share))
     }
 
     /// Runs so many cases of a kind and prints its counts, what is in them behind.

@@ -94,11 +94,6 @@ fn thin_bars(dice: &mut Dice) -> Vec<Command> {
 }
 
 impl Group {
-    /// The labels in turn, so many of them.
-    pub fn labels(&self, count: usize) -> impl Iterator<Item = &Sample> {
-        self.samples.iter().cycle().take(count)
-    }
-
     pub fn mean_cells(&self) -> usize {
         self.samples.iter().map(|s| s.cells).sum::<usize>() / self.samples.len()
     }
