@@ -42,6 +42,8 @@ pub mod zeno;
 mod agreement;
 #[cfg(test)]
 mod labels;
+#[cfg(test)]
+mod slanted;
 
 /// From zeno's src/lib.rs, where it stands for the `Vec` of alloc.
 mod lib {

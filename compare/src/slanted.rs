@@ -1,0 +1,50 @@
+//! The masks that the tests of the bindings go by, bindings/worked/: what zeno draws, and the
+//! numbers that bindings/worked/README.md tells of it.
+
+use crate::drawing::{Drawing, Way};
+use crate::driver::{outcome, outcome_in};
+use crate::oracle::{Fill, Point, Transform};
+
+const LIST: &[u8] = include_bytes!("../../bindings/worked/slanted.mzp");
+const EVEN_ODD: &[u8] = include_bytes!("../../bindings/worked/slanted_even_odd.mask");
+const NONZERO: &[u8] = include_bytes!("../../bindings/worked/slanted_nonzero.mask");
+const WORDS: usize = 123;
+
+fn slanted(fill: Fill, words: usize) -> Drawing {
+    Drawing {
+        list: LIST.to_vec(),
+        transform: Transform::new(1.25, 0.375, -0.5, 0.875, 6.5, 1.75),
+        offset: Point::new(1.125, -2.25),
+        fill,
+        up: true,
+        width: 24,
+        height: 17,
+        pitch: 29,
+        first: 3,
+        end: 14,
+        mask: vec![0xA5; 29 * 10 + 24],
+        words: vec![7; words],
+    }
+}
+
+#[test]
+fn the_stored_masks_are_zenos() {
+    for (fill, mask) in [(Fill::EvenOdd, EVEN_ODD), (Fill::NonZero, NONZERO)] {
+        let drawn = outcome(&slanted(fill, 1000));
+        assert_eq!((drawn.number, drawn.records, drawn.cells), (0, 12, 93));
+        assert_eq!(drawn.mask, mask, "{fill:?}");
+    }
+}
+
+/// A band of one row has no more places than the band of three that it is part of.
+#[test]
+fn three_rows_and_one_are_the_only_steps() {
+    let accepted = |step: &usize| {
+        let drawn = outcome_in(&slanted(Fill::EvenOdd, WORDS), Way::InBands(*step));
+        assert!(drawn.number == 0 || drawn.number == 13, "{}", drawn.number);
+        drawn.number == 0
+    };
+    assert_eq!((1..20).filter(accepted).collect::<Vec<_>>(), [1, 3]);
+    let word_less = slanted(Fill::EvenOdd, WORDS - 1);
+    assert_eq!(outcome_in(&word_less, Way::InBands(3)).number, 13);
+}
