@@ -1,8 +1,20 @@
 /*
  * Mosszephyr: draws an address label, given as a path list, into a mask of one byte a pixel.
  *
- * Link with target/staticlib/libmosszephyr.a (x86-64), which `rt staticlib mosszephyr` writes at
- * the repository's root. C11 and C++11 can include this file.
+ * Link with libmosszephyr.a (x86-64). `./install PREFIX` at the repository's root builds it and
+ * puts it, this file and mosszephyr.pc below PREFIX. C11 and C++11 can include this file.
+ *
+ *     static uint8_t mask[640 * 240];
+ *     static uint32_t words[MZ_WORKSPACE_WORDS(240, MZ_MOST_CELLS)];
+ *
+ *     MzLabel label = mz_label(640, 240);
+ *     label.even_odd = true;
+ *     MzDrawn drawn = mz_draw(list, list_len, label, mask, sizeof mask,
+ *                             words, sizeof words / sizeof words[0]);
+ *     if (drawn.number != MZ_ACCEPTED) {
+ *         fprintf(stderr, "refused with %u, record %u: %s\n",
+ *                 drawn.number, drawn.index, mz_words(drawn.number));
+ *     }
  *
  * What a call answers, and what it leaves in mask and words, is proved. The rules stand whole in
  * docs/RULES.md; each function's promise, in crates/mosszephyr/src/lib.rt, names the definition
@@ -11,9 +23,10 @@
  *
  * The path list
  * -------------
- * A list is bytes, at most 65,536 of them: records behind each other, with nothing between, before
- * or after. A record has two bytes of length, in which these two are not counted, two bytes of kind
- * and the coordinates, x before y, four bytes each: IEEE 754 binary32. The lowest byte comes first.
+ * A list is bytes, at most MZ_MOST_LIST of them: records behind each other, with nothing between,
+ * before or after. A record has two bytes of length, in which these two are not counted, two bytes
+ * of kind and the coordinates, x before y, four bytes each: IEEE 754 binary32. The lowest byte
+ * comes first.
  *
  *     kind  command             length  record's bytes
  *        1  MoveTo p                10              12
@@ -34,20 +47,20 @@
  *
  * Refusals
  * --------
- * Every function answers with a number, 0 or a refusal's, and an index: that of the record at
- * fault, counted from 0, or 0 where it is none's. 1 to 7 are asked first, in this order. Then each
- * record is judged, from the first on, up to one that is refused: a cut header (8), 9, 10, a cut
- * body (8), 11, 12. A list must be judged to its end before it is drawn, so 13 comes last.
- * rows stands for end - first.
+ * Every call that takes a list answers with a number, 0 or a refusal's, and an index: that of the
+ * record at fault, counted from 0, or 0 where it is none's. 1 to 7 are asked first, in this order.
+ * Then each record is judged, from the first on, up to one that is refused: a cut header (8), 9,
+ * 10, a cut body (8), 11, 12. A list must be judged to its end before it is drawn, so 13 comes
+ * last. rows stands for end - first.
  *
  *     no.  exactly when
- *       1  width or height is above 2,048
+ *       1  width or height is above MZ_MOST_SIDE
  *       2  first > end, or end > height
- *       3  pitch is below width or above 65,536
+ *       3  pitch is below width or above MZ_MOST_PITCH
  *       4  rows > 0 and the mask is shorter than pitch*(rows - 1) + width
  *       5  the workspace has fewer words than rows
  *       6  a number of the transform or of the offset is NaN or infinite
- *       7  the list is longer than 65,536 bytes
+ *       7  the list is longer than MZ_MOST_LIST bytes
  *       8  a record is cut: 1 to 3 bytes are left, or its body passes the end of the list
  *       9  a kind is not 1 to 5
  *      10  a length is not the kind's
@@ -62,10 +75,10 @@
  * them is told by a refusal. What C cannot tell the library, the caller must see to:
  *
  * - Each pointer is valid for the length that follows it: list for reads, mask and words for reads
- *   and writes, words of 4 bytes each. A length in bytes is at most PTRDIFF_MAX.
- * - words is aligned to 4 bytes.
- * - No pointer is NULL, not even with length 0. Nothing is read or written through a pointer of
- *   length 0, so the address of any variable will do (of a uint32_t, for words).
+ *   and writes, words of 4 bytes each. A length in bytes is at most PTRDIFF_MAX. With length 0 a
+ *   pointer may be anything, NULL too, as an empty std::vector's data() is: nothing is read or
+ *   written through it.
+ * - words is aligned to 4 bytes, unless its length is 0.
  * - list, mask and words do not overlap, and no other thread writes to them, or reads mask or
  *   words, during the call.
  * - A bool holds 0 or 1, as every bool does that was assigned in C or C++.
@@ -81,6 +94,7 @@
 #ifndef MOSSZEPHYR_H
 #define MOSSZEPHYR_H
 
+#include <assert.h>
 #include <stdbool.h>
 #include <stddef.h>
 #include <stdint.h>
@@ -88,6 +102,12 @@
 #ifdef __cplusplus
 extern "C" {
 #endif
+
+/* The version of this face. */
+#define MZ_VERSION_MAJOR 0
+#define MZ_VERSION_MINOR 2
+#define MZ_VERSION_PATCH 0
+#define MZ_VERSION "0.2.0"
 
 /* The largest width and height, in pixels. */
 #define MZ_MOST_SIDE 2048
@@ -98,8 +118,24 @@ extern "C" {
 /* The most places (column, row) that a pool holds; words beyond that are only wiped. */
 #define MZ_MOST_CELLS 16384
 
-/* How many words a workspace needs for a band of `rows` rows with a pool of `cells` places. */
+/*
+ * How many words mz_draw needs for a band of `rows` rows with a pool of `cells` places. This and
+ * the next are constants where their arguments are; the next uses an argument more than once.
+ */
 #define MZ_WORKSPACE_WORDS(rows, cells) ((size_t)(rows) + 4 * (size_t)(cells))
+
+/*
+ * How many words mz_draw_in_bands needs for `rows` rows in bands of `step` rows, none of which has
+ * more than `cells` places. 5 asks for a word for each of all the rows; 13 asks for a word for each
+ * row of a band and four for each of its places. The larger of the two is enough for both.
+ */
+#define MZ_BANDS_WORDS(rows, step, cells)                                                          \
+    MZ_LARGER((size_t)(rows), MZ_WORKSPACE_WORDS(MZ_BAND_ROWS(rows, step), cells))
+
+/* For the macro above: how many rows the highest band has. */
+#define MZ_BAND_ROWS(rows, step)                                                                   \
+    ((size_t)(step) < (size_t)(rows) ? MZ_LARGER((size_t)(step), (size_t)1) : (size_t)(rows))
+#define MZ_LARGER(a, b) ((a) < (b) ? (b) : (a))
 
 /* The numbers that a call answers with; the table above says when. */
 enum {
@@ -119,9 +155,31 @@ enum {
     MZ_ROOM = 13
 };
 
+/* A number in words, to be shown to people. */
+static inline const char *mz_words(uint32_t number) {
+    switch (number) {
+    case MZ_ACCEPTED: return "accepted";
+    case MZ_SIZE: return "the width or the height is above 2,048 pixels";
+    case MZ_BAND: return "the band does not lie within the label";
+    case MZ_PITCH: return "the pitch is below the width or above 65,536 bytes";
+    case MZ_MASK: return "the mask is too short for the band";
+    case MZ_WORKSPACE: return "the workspace has fewer words than the band has rows";
+    case MZ_FLOAT: return "a transform entry or an offset part is NaN or infinite";
+    case MZ_LIST: return "the path list is longer than 65,536 bytes";
+    case MZ_CUT: return "the end of the list cuts the record";
+    case MZ_KIND: return "the record's kind is not 1 to 5";
+    case MZ_LENGTH: return "the record's length is not its kind's";
+    case MZ_START: return "the first record is not a MoveTo";
+    case MZ_POINT:
+        return "a point is NaN, infinite, or 1/256 of a pixel or more beyond 2,048 from zero";
+    case MZ_ROOM: return "the drawing needs more places than the workspace has room for";
+    default: return "an unknown refusal";
+    }
+}
+
 /*
  * Sends (x, y) to ((x*xx + y*yx) + tx, (x*xy + y*yy) + ty): the fields x and y are tx and ty.
- * The identity is {1, 0, 0, 1, 0, 0}.
+ * mz_identity and the functions behind it make one.
  */
 typedef struct MzTransform {
     float xx;
@@ -131,6 +189,37 @@ typedef struct MzTransform {
     float x;
     float y;
 } MzTransform;
+
+/* A point or a vector. */
+typedef struct MzPoint {
+    float x;
+    float y;
+} MzPoint;
+
+/*
+ * What is drawn of a list, and how. Begin with mz_label, which fills in every field, and change by
+ * name what is to be otherwise:
+ *
+ *     MzLabel label = mz_label(640, 240);
+ *     label.transform = mz_scale(2, 2);
+ *     label.pitch = 1024;
+ *
+ * A label begun with {0} has a transform of zeros, which sends every point to one place: whatever
+ * size it is then given, it draws nothing and is refused by nothing.
+ */
+typedef struct MzLabel {
+    MzTransform transform; /* applied to every point */
+    float offset_x;        /* added to every transformed point */
+    float offset_y;
+    bool even_odd;         /* the fill rule: even-odd if true, nonzero if false */
+    bool up;               /* false: the mask's top row shows the path row first, y pointing down;
+                              true: its bottom row does, y pointing up */
+    size_t width;          /* of the whole label, in pixels, 0 allowed */
+    size_t height;
+    size_t pitch;          /* bytes from one mask row to the next */
+    size_t first;          /* the rows that are drawn, first to end - 1: a band. The mask's first */
+    size_t end;            /* byte belongs to the band, not to the label */
+} MzLabel;
 
 /* What a drawing answers. */
 typedef struct MzDrawn {
@@ -163,22 +252,15 @@ typedef struct MzPlacement {
 } MzPlacement;
 
 /*
- * Draws the rows first to end - 1 of a label of width x height pixels: a band. The whole label is
- * the band [0, height).
+ * Draws the rows first to end - 1 of a label. The whole label is the band [0, height), as mz_label
+ * has it.
  *
  * list, list_len    the path list
- * transform         applied to every point
- * offset_x, _y      added to every transformed point
- * even_odd          the fill rule: even-odd if true, nonzero if false
- * up                false: the mask's top row shows the path row first, y pointing down;
- *                   true: its bottom row does, y pointing up
- * width, height     of the whole label, in pixels, 0 allowed
- * pitch             bytes from one mask row to the next
- * first, end        the band; the mask's first byte belongs to the band, not to the label
+ * label             what is drawn, and how
  * mask, mask_len    at least pitch*(end - first - 1) + width bytes, or any with no rows
  * words, words_len  the workspace; it holds one word for each row of the band, and the rest, in
- *                   fours, is the pool: (words_len - rows) / 4 places rounded down, at most 16,384.
- *                   MZ_WORKSPACE_WORDS counts them. A drawing never stores more than
+ *                   fours, is the pool: (words_len - rows) / 4 places rounded down, at most
+ *                   MZ_MOST_CELLS. MZ_WORKSPACE_WORDS counts them. A drawing never stores more than
  *                   (width + 1) * rows places; the smaller the workspace, the sooner it is wiped
  *
  * Refuses with 1 to 13. What was in mask and words before changes no answer and no painted byte.
@@ -192,10 +274,8 @@ typedef struct MzPlacement {
  * A label that is refused with 13 may still be drawn in bands: each has the whole pool to itself,
  * and together they give the whole label's bytes. mz_draw_in_bands draws so.
  */
-MzDrawn mz_draw(const uint8_t *list, size_t list_len, MzTransform transform, float offset_x,
-                float offset_y, bool even_odd, bool up, size_t width, size_t height, size_t pitch,
-                size_t first, size_t end, uint8_t *mask, size_t mask_len, uint32_t *words,
-                size_t words_len);
+MzDrawn mz_draw(const uint8_t *list, size_t list_len, MzLabel label, uint8_t *mask,
+                size_t mask_len, uint32_t *words, size_t words_len);
 
 /*
  * Draws what mz_draw draws, in bands of step rows from first on, the last band with what is left:
@@ -203,17 +283,17 @@ MzDrawn mz_draw(const uint8_t *list, size_t list_len, MzTransform transform, flo
  *
  * step              rows of a band, 0 counting as 1; with as many as end - first or more it is
  *                   mz_draw. The list is read anew for each band, so few rows cost time
- * mask, words       as for mz_draw with all rows; each band has for its pool what its own rows
- *                   leave: (words_len - its rows) / 4 places rounded down, at most 16,384
+ * mask, words       as for mz_draw with all rows: 5 asks for as many words as there are rows in
+ *                   all. Each band has for its pool what its own rows leave: (words_len - its
+ *                   rows) / 4 places rounded down, at most MZ_MOST_CELLS. MZ_BANDS_WORDS counts
+ *                   what is needed
  *
  * Refuses with 1 to 12 as mz_draw does, and with 13 exactly when one of the bands stores more
  * distinct places than its pool holds; then the mask is unchanged, whichever band it is. What each
  * number leaves in mask and words is as for mz_draw. Accepted, mask, records and cells are those of
  * the rows drawn at once; so whatever mz_draw accepts gives the same here, with any step.
  */
-MzDrawn mz_draw_in_bands(const uint8_t *list, size_t list_len, MzTransform transform,
-                         float offset_x, float offset_y, bool even_odd, bool up, size_t width,
-                         size_t height, size_t pitch, size_t first, size_t end, size_t step,
+MzDrawn mz_draw_in_bands(const uint8_t *list, size_t list_len, MzLabel label, size_t step,
                          uint8_t *mask, size_t mask_len, uint32_t *words, size_t words_len);
 
 /*
@@ -235,15 +315,109 @@ MzBounds mz_bounds(const uint8_t *list, size_t list_len, MzTransform transform);
  * the box of mz_bounds, and 12 with index 0 says that the offset itself fails the point rule.
  * A placement can be larger than a drawing may be, up to 4098 x 4098: mz_draw then says 1.
  *
- * To draw what was placed, call mz_draw with width and height from here and the offset (offset_x,
- * offset_y); where the list was placed with an offset (x, y) of its own, with (x + offset_x,
+ * To draw what was placed, begin with mz_label(width, height) of these and give it the offset
+ * (offset_x, offset_y); where the list was placed with an offset (x, y) of its own, (x + offset_x,
  * y + offset_y).
  */
 MzPlacement mz_placement(const uint8_t *list, size_t list_len, MzTransform transform,
                          float offset_x, float offset_y, bool bottom_left);
 
+/* The whole label: the identity, no offset, nonzero, y down, pitch = width, first 0, end = height. */
+MzLabel mz_label(size_t width, size_t height);
+
+/* Leaves every point where it is: {1, 0, 0, 1, 0, 0}. */
+MzTransform mz_identity(void);
+
+/* Adds (x, y): {1, 0, 0, 1, x, y}. */
+MzTransform mz_translation(float x, float y);
+
+/* Multiplies by x and by y: {x, 0, 0, y, 0, 0}. */
+MzTransform mz_scale(float x, float y);
+
+/*
+ * First t, then next, as one transform: its entries, rounded once a product and once a sum, are
+ *
+ *     xx = t.xx*next.xx + t.yx*next.xy          xy = t.xy*next.xx + t.yy*next.xy
+ *     yx = t.xx*next.yx + t.yx*next.yy          yy = t.xy*next.yx + t.yy*next.yy
+ *     x = (t.x*next.xx + t.y*next.xy) + next.x  y = (t.x*next.yx + t.y*next.yy) + next.y
+ */
+MzTransform mz_then(MzTransform t, MzTransform next);
+
+/* First t, then mz_scale(x, y). */
+MzTransform mz_then_scale(MzTransform t, float x, float y);
+
+/* First t, then mz_translation(x, y): x and y are added to t's, and its other entries stay. */
+MzTransform mz_then_translate(MzTransform t, float x, float y);
+
+/* First mz_scale(x, y), then t. */
+MzTransform mz_pre_scale(MzTransform t, float x, float y);
+
+/* First mz_translation(x, y), then t. */
+MzTransform mz_pre_translate(MzTransform t, float x, float y);
+
+/* Where t sends the point (x, y). */
+MzPoint mz_transform_point(MzTransform t, float x, float y);
+
+/* Where t sends the vector (x, y): without tx and ty. */
+MzPoint mz_transform_vector(MzTransform t, float x, float y);
+
 #ifdef __cplusplus
 }
 #endif
+
+/* The archive has these sizes and places. What a compiler lays out otherwise does not compile. */
+#define MZ_HAS_SIZE(type, size) static_assert(sizeof(type) == (size), "size of " #type)
+#define MZ_STANDS_AT(type, field, at) static_assert(offsetof(type, field) == (at), #type "." #field)
+
+MZ_HAS_SIZE(MzTransform, 24);
+MZ_STANDS_AT(MzTransform, xx, 0);
+MZ_STANDS_AT(MzTransform, xy, 4);
+MZ_STANDS_AT(MzTransform, yx, 8);
+MZ_STANDS_AT(MzTransform, yy, 12);
+MZ_STANDS_AT(MzTransform, x, 16);
+MZ_STANDS_AT(MzTransform, y, 20);
+
+MZ_HAS_SIZE(MzPoint, 8);
+MZ_STANDS_AT(MzPoint, x, 0);
+MZ_STANDS_AT(MzPoint, y, 4);
+
+MZ_HAS_SIZE(MzLabel, 80);
+MZ_STANDS_AT(MzLabel, transform, 0);
+MZ_STANDS_AT(MzLabel, offset_x, 24);
+MZ_STANDS_AT(MzLabel, offset_y, 28);
+MZ_STANDS_AT(MzLabel, even_odd, 32);
+MZ_STANDS_AT(MzLabel, up, 33);
+MZ_STANDS_AT(MzLabel, width, 40);
+MZ_STANDS_AT(MzLabel, height, 48);
+MZ_STANDS_AT(MzLabel, pitch, 56);
+MZ_STANDS_AT(MzLabel, first, 64);
+MZ_STANDS_AT(MzLabel, end, 72);
+
+MZ_HAS_SIZE(MzDrawn, 16);
+MZ_STANDS_AT(MzDrawn, number, 0);
+MZ_STANDS_AT(MzDrawn, index, 4);
+MZ_STANDS_AT(MzDrawn, records, 8);
+MZ_STANDS_AT(MzDrawn, cells, 12);
+
+MZ_HAS_SIZE(MzBounds, 24);
+MZ_STANDS_AT(MzBounds, number, 0);
+MZ_STANDS_AT(MzBounds, index, 4);
+MZ_STANDS_AT(MzBounds, min_x, 8);
+MZ_STANDS_AT(MzBounds, min_y, 12);
+MZ_STANDS_AT(MzBounds, max_x, 16);
+MZ_STANDS_AT(MzBounds, max_y, 20);
+
+MZ_HAS_SIZE(MzPlacement, 32);
+MZ_STANDS_AT(MzPlacement, number, 0);
+MZ_STANDS_AT(MzPlacement, index, 4);
+MZ_STANDS_AT(MzPlacement, offset_x, 8);
+MZ_STANDS_AT(MzPlacement, offset_y, 12);
+MZ_STANDS_AT(MzPlacement, left, 16);
+MZ_STANDS_AT(MzPlacement, top, 20);
+MZ_STANDS_AT(MzPlacement, width, 24);
+MZ_STANDS_AT(MzPlacement, height, 28);
+
+#undef MZ_HAS_SIZE
+#undef MZ_STANDS_AT
 
 #endif
