@@ -322,7 +322,7 @@ MzBounds mz_bounds(const uint8_t *list, size_t list_len, MzTransform transform);
 MzPlacement mz_placement(const uint8_t *list, size_t list_len, MzTransform transform,
                          float offset_x, float offset_y, bool bottom_left);
 
-/* The whole label: the identity, no offset, nonzero, y down, pitch = width, first 0, end = height. */
+/* The whole label: identity, no offset, nonzero, y down, pitch = width, first 0, end = height. */
 MzLabel mz_label(size_t width, size_t height);
 
 /* Leaves every point where it is: {1, 0, 0, 1, 0, 0}. */
@@ -335,30 +335,34 @@ MzTransform mz_translation(float x, float y);
 MzTransform mz_scale(float x, float y);
 
 /*
- * First t, then next, as one transform: its entries, rounded once a product and once a sum, are
+ * t combined with next, just as zeno combines them; each product and each sum is rounded:
  *
- *     xx = t.xx*next.xx + t.yx*next.xy          xy = t.xy*next.xx + t.yy*next.xy
- *     yx = t.xx*next.yx + t.yx*next.yy          yy = t.xy*next.yx + t.yy*next.yy
- *     x = (t.x*next.xx + t.y*next.xy) + next.x  y = (t.x*next.yx + t.y*next.yy) + next.y
+ *     xx = t.xx*next.xx + t.yx*next.xy            xy = t.xy*next.xx + t.yy*next.xy
+ *     yx = t.xx*next.yx + t.yx*next.yy            yy = t.xy*next.yx + t.yy*next.yy
+ *     x = (t.x*next.xx + t.y*next.xy) + next.x    y = (t.x*next.yx + t.y*next.yy) + next.y
+ *
+ * Where xy and yx are 0 in both, it moves a point as t does and then as next does, but for the
+ * rounding. Where they are not, as in a rotation, it need not, and so for the three that are made
+ * from it: fill in the entries instead.
  */
 MzTransform mz_then(MzTransform t, MzTransform next);
 
-/* First t, then mz_scale(x, y). */
+/* mz_then(t, mz_scale(x, y)): t.xx, t.xy and t.x times x; t.yx, t.yy and t.y times y. */
 MzTransform mz_then_scale(MzTransform t, float x, float y);
 
-/* First t, then mz_translation(x, y): x and y are added to t's, and its other entries stay. */
+/* t, and then a translation, whatever t is: x is added to t.x and y to t.y. */
 MzTransform mz_then_translate(MzTransform t, float x, float y);
 
-/* First mz_scale(x, y), then t. */
+/* mz_then(mz_scale(x, y), t): t.xx and t.yx times x; t.xy and t.yy times y; t.x and t.y stay. */
 MzTransform mz_pre_scale(MzTransform t, float x, float y);
 
-/* First mz_translation(x, y), then t. */
+/* mz_then(mz_translation(x, y), t): x*xx + y*xy is added to t.x, and x*yx + y*yy to t.y. */
 MzTransform mz_pre_translate(MzTransform t, float x, float y);
 
 /* Where t sends the point (x, y). */
 MzPoint mz_transform_point(MzTransform t, float x, float y);
 
-/* Where t sends the vector (x, y): without tx and ty. */
+/* Where t sends the vector (x, y): the same without tx and ty. */
 MzPoint mz_transform_vector(MzTransform t, float x, float y);
 
 #ifdef __cplusplus

@@ -1,18 +1,22 @@
 /*
- * The C face, called as a C or a C++ program calls it: K1, K8, K11, K12 and every refusal of
- * the rules (docs/RULES.md), at once and in bands. Prints what differs; exits non-zero if anything
- * does. `run` builds it both ways.
+ * The C face, called as a C or a C++ program calls it: a worked label that zeno drew, at once and
+ * in bands; worked transforms; K1, K8, K11, K12 and every refusal of the rules (docs/RULES.md);
+ * what the header says besides its functions. Takes the folder ../worked as its argument. Prints
+ * what differs; exits non-zero if anything does. `run` builds it both ways.
  */
 
 #include "../mosszephyr.h"
+#include "lists.h"
 
 #include <math.h>
 #include <stdio.h>
 #include <string.h>
 
-#define LENGTH(array) (sizeof(array) / sizeof((array)[0]))
+#ifdef __cplusplus
+#include <vector>
+#endif
 
-static const MzTransform IDENTITY = {1, 0, 0, 1, 0, 0};
+#define LENGTH(array) (sizeof(array) / sizeof((array)[0]))
 
 static int checks = 0;
 static int failures = 0;
@@ -25,107 +29,48 @@ static void check(bool holds, const char *what) {
     }
 }
 
-/* A path list that grows at its end. */
-typedef struct List {
-    uint8_t bytes[256];
-    size_t len;
-} List;
-
-static void put_u16(List *list, unsigned number) {
-    list->bytes[list->len++] = (uint8_t)(number % 256);
-    list->bytes[list->len++] = (uint8_t)(number / 256);
-}
-
-static void put_float(List *list, float part) {
-    uint32_t bits;
-    memcpy(&bits, &part, sizeof bits);
-    put_u16(list, bits % 65536);
-    put_u16(list, bits / 65536);
-}
-
-static void put_point(List *list, unsigned kind, float x, float y) {
-    put_u16(list, 10);
-    put_u16(list, kind);
-    put_float(list, x);
-    put_float(list, y);
-}
-
-static void move_to(List *list, float x, float y) { put_point(list, 1, x, y); }
-
-static void line_to(List *list, float x, float y) { put_point(list, 2, x, y); }
-
-static void close_path(List *list) {
-    put_u16(list, 2);
-    put_u16(list, 5);
-}
-
-static List empty_list(void) {
-    List list;
-    memset(&list, 0, sizeof list);
-    return list;
-}
-
-static List one_move(float x, float y) {
-    List list = empty_list();
-    move_to(&list, x, y);
-    return list;
-}
-
-/* In the order of K1: right along the top first. */
-static List rectangle_of(float left, float top, float right, float bottom) {
-    List list = one_move(left, top);
-    line_to(&list, right, top);
-    line_to(&list, right, bottom);
-    line_to(&list, left, bottom);
-    close_path(&list);
-    return list;
-}
-
-/* K1's rectangle. */
-static List rectangle(void) { return rectangle_of(1, 1, 3, 2); }
-
 /* All that a drawing takes, and the memory that it is lent. */
 typedef struct Call {
     const uint8_t *list;
     size_t list_len;
-    MzTransform transform;
-    float offset_x, offset_y;
-    bool even_odd, up;
-    size_t width, height, pitch, first, end;
-    uint8_t mask[64];
+    MzLabel label;
+    uint8_t mask[320];
     size_t mask_len;
-    uint32_t words[64];
+    uint32_t words[400];
     size_t words_len;
 } Call;
 
-/* The whole label with a mask that just fits; mask and words hold something old. */
-static Call call_of(const List *list, size_t width, size_t height) {
+/* The label with a mask that just fits and 64 words; mask and words hold something old. */
+static Call call_for(const List *list, MzLabel label) {
     Call call;
     memset(&call, 0, sizeof call);
     call.list = list->bytes;
     call.list_len = list->len;
-    call.transform = IDENTITY;
-    call.width = width;
-    call.height = height;
-    call.pitch = width;
-    call.end = height;
-    call.mask_len = width * height;
-    call.words_len = LENGTH(call.words);
+    call.label = label;
+    call.mask_len = label.pitch * (label.end - label.first - 1) + label.width;
+    call.words_len = 64;
     memset(call.mask, 0xA5, sizeof call.mask);
     memset(call.words, 0x5A, sizeof call.words);
     return call;
 }
 
+/* The same for the whole label. */
+static Call call_of(const List *list, size_t width, size_t height) {
+    return call_for(list, mz_label(width, height));
+}
+
 static MzDrawn draw(Call *c) {
-    return mz_draw(c->list, c->list_len, c->transform, c->offset_x, c->offset_y, c->even_odd, c->up,
-                   c->width, c->height, c->pitch, c->first, c->end, c->mask, c->mask_len, c->words,
-                   c->words_len);
+    return mz_draw(c->list, c->list_len, c->label, c->mask, c->mask_len, c->words, c->words_len);
 }
 
 static MzDrawn draw_in_bands(Call *c, size_t step) {
-    return mz_draw_in_bands(c->list, c->list_len, c->transform, c->offset_x, c->offset_y,
-                            c->even_odd, c->up, c->width, c->height, c->pitch, c->first, c->end,
-                            step, c->mask, c->mask_len, c->words, c->words_len);
+    return mz_draw_in_bands(c->list, c->list_len, c->label, step, c->mask, c->mask_len, c->words,
+                            c->words_len);
+}
+
+static bool answers(MzDrawn drawn, uint32_t records, uint32_t cells) {
+    return drawn.number == MZ_ACCEPTED && drawn.index == 0 && drawn.records == records &&
+           drawn.cells == cells;
 }
 
 /* Whether the lent words are 0 and the others are old. */
@@ -164,6 +109,12 @@ static void check_refusal(const Call *before, const Call *after, MzDrawn drawn, 
     }
 }
 
+static void expect_refusal_at_once(Call call, uint32_t number, uint32_t index) {
+    Call before = call;
+    MzDrawn drawn = draw(&call);
+    check_refusal(&before, &call, drawn, number, index);
+}
+
 static void expect_refusal_in_bands(Call call, size_t step, uint32_t number, uint32_t index) {
     Call before = call;
     MzDrawn drawn = draw_in_bands(&call, step);
@@ -172,22 +123,221 @@ static void expect_refusal_in_bands(Call call, size_t step, uint32_t number, uin
 
 /* At once, in one band, and, where no band's room decides, row by row. */
 static void expect_refusal(Call call, uint32_t number, uint32_t index) {
-    Call before = call;
-    MzDrawn drawn = draw(&call);
-    check_refusal(&before, &call, drawn, number, index);
-    expect_refusal_in_bands(before, SIZE_MAX, number, index);
+    expect_refusal_at_once(call, number, index);
+    expect_refusal_in_bands(call, SIZE_MAX, number, index);
     if (number != MZ_ROOM) {
-        expect_refusal_in_bands(before, 1, number, index);
+        expect_refusal_in_bands(call, 1, number, index);
     }
 }
+
+/* ---- the worked label */
+
+/* A file of ../worked, which just fits; its length. */
+static size_t read_worked(const char *folder, const char *name, uint8_t *bytes, size_t room) {
+    char path[1024];
+    snprintf(path, sizeof path, "%s/%s", folder, name);
+    FILE *file = fopen(path, "rb");
+    size_t len = file == NULL ? 0 : fread(bytes, 1, room, file);
+    check(file != NULL && len > 0 && fgetc(file) == EOF, path);
+    if (file != NULL) {
+        fclose(file);
+    }
+    return len;
+}
+
+/* The numbers of worked/README.md; no two that could be exchanged are the same. */
+static MzLabel slanted_label(bool even_odd) {
+    MzLabel label = mz_label(24, 17);
+    label.transform.xx = 1.25f;
+    label.transform.xy = 0.375f;
+    label.transform.yx = -0.5f;
+    label.transform.yy = 0.875f;
+    label.transform.x = 6.5f;
+    label.transform.y = 1.75f;
+    label.offset_x = 1.125f;
+    label.offset_y = -2.25f;
+    label.even_odd = even_odd;
+    label.up = true;
+    label.pitch = 29;
+    label.first = 3;
+    label.end = 14;
+    return label;
+}
+
+static void check_slanted(const Call *call, MzDrawn drawn, const uint8_t *mask, const char *what) {
+    check(answers(drawn, 12, 93), what);
+    check(masked(call, mask, 314), what);
+    check(wiped(call), what);
+}
+
+/* A workspace that is just enough at once, and one that is so in bands of 3 rows (or of 1). */
+static void slanted_with(Call call, const uint8_t *mask, const char *what) {
+    static const size_t too_high[] = {2, 4, 5, 11, SIZE_MAX};
+    call.words_len = MZ_WORKSPACE_WORDS(11, 93);
+    Call at_once = call;
+    MzDrawn drawn = draw(&at_once);
+    check_slanted(&at_once, drawn, mask, what);
+    call.words_len -= 1;
+    expect_refusal_at_once(call, MZ_ROOM, 0);
+    call.words_len = MZ_BANDS_WORDS(11, 3, 30);
+    for (size_t step = 1; step <= 3; step += 2) {
+        Call in_bands = call;
+        drawn = draw_in_bands(&in_bands, step);
+        check_slanted(&in_bands, drawn, mask, what);
+    }
+    expect_refusal_at_once(call, MZ_ROOM, 0);
+    for (size_t at = 0; at < LENGTH(too_high); at += 1) {
+        expect_refusal_in_bands(call, too_high[at], MZ_ROOM, 0);
+    }
+    call.words_len -= 1;
+    expect_refusal_in_bands(call, 3, MZ_ROOM, 0);
+}
+
+static void slanted(const char *folder) {
+    List list = empty_list();
+    uint8_t mask[314];
+    list.len = read_worked(folder, "slanted.mzp", list.bytes, sizeof list.bytes);
+    read_worked(folder, "slanted_even_odd.mask", mask, sizeof mask);
+    slanted_with(call_for(&list, slanted_label(true)), mask, "slanted, even-odd");
+    read_worked(folder, "slanted_nonzero.mask", mask, sizeof mask);
+    slanted_with(call_for(&list, slanted_label(false)), mask, "slanted, nonzero");
+}
+
+/* ---- transforms, with numbers worked by hand: all are exact */
+
+static bool is_transform(MzTransform t, float xx, float xy, float yx, float yy, float x, float y) {
+    return t.xx == xx && t.xy == xy && t.yx == yx && t.yy == yy && t.x == x && t.y == y;
+}
+
+static void transforms_are_made(void) {
+    check(is_transform(mz_identity(), 1, 0, 0, 1, 0, 0), "mz_identity");
+    check(is_transform(mz_translation(2, -4), 1, 0, 0, 1, 2, -4), "mz_translation");
+    check(is_transform(mz_scale(2, -4), 2, 0, 0, -4, 0, 0), "mz_scale");
+}
+
+static void transforms_are_combined(void) {
+    MzTransform t = slanted_label(false).transform;
+    MzTransform next = t;
+    next.xx = 2;
+    next.xy = -0.25f;
+    next.yx = 0.75f;
+    next.yy = 1.5f;
+    next.x = -3;
+    next.y = 5;
+    MzTransform then = mz_then(t, next);
+    check(is_transform(then, 2.625f, 0.53125f, 0.1875f, 1.59375f, 9.5625f, 12.5f), "mz_then");
+    then = mz_then_scale(t, 2, -4);
+    check(is_transform(then, 2.5f, 0.75f, 2, -3.5f, 13, -7), "mz_then_scale");
+    then = mz_then_translate(t, 2, -4);
+    check(is_transform(then, 1.25f, 0.375f, -0.5f, 0.875f, 8.5f, -2.25f), "mz_then_translate");
+    then = mz_pre_scale(t, 2, -4);
+    check(is_transform(then, 2.5f, -1.5f, -1, -3.5f, 6.5f, 1.75f), "mz_pre_scale");
+    then = mz_pre_translate(t, 2, -4);
+    check(is_transform(then, 1.25f, 0.375f, -0.5f, 0.875f, 7.5f, -2.75f), "mz_pre_translate");
+}
+
+static void transforms_are_applied(void) {
+    MzTransform t = slanted_label(false).transform;
+    MzPoint point = mz_transform_point(t, 2, -4);
+    check(point.x == 11 && point.y == -1, "mz_transform_point");
+    MzPoint vector = mz_transform_vector(t, 2, -4);
+    check(vector.x == 4.5f && vector.y == -2.75f, "mz_transform_vector");
+}
+
+/* From (11, -1) to (9.75, 3.75), moved by (0.5, -2.25). */
+static void slanted_line_is_placed(void) {
+    MzTransform t = slanted_label(false).transform;
+    List list = one_move(2, -4);
+    line_to(&list, 3, 1);
+    MzBounds box = mz_bounds(list.bytes, list.len, t);
+    check(box.number == MZ_ACCEPTED && box.index == 0, "slanted box: number and index");
+    check(box.min_x == 9.75f && box.min_y == -1, "slanted box: minimum");
+    check(box.max_x == 11 && box.max_y == 3.75f, "slanted box: maximum");
+    MzPlacement placed = mz_placement(list.bytes, list.len, t, 0.5f, -2.25f, true);
+    check(placed.number == MZ_ACCEPTED && placed.index == 0, "slanted place: number and index");
+    check(placed.offset_x == -10 && placed.offset_y == 4, "slanted place: offset");
+    check(placed.left == 10 && placed.top == 2, "slanted place: left and top");
+    check(placed.width == 2 && placed.height == 6, "slanted place: size");
+}
+
+/* ---- what the header says besides */
+
+static void label_is_whole(void) {
+    MzLabel label = mz_label(24, 17);
+    check(is_transform(label.transform, 1, 0, 0, 1, 0, 0), "mz_label: transform");
+    check(label.offset_x == 0 && label.offset_y == 0, "mz_label: offset");
+    check(!label.even_odd && !label.up, "mz_label: even_odd and up");
+    check(label.width == 24 && label.height == 17, "mz_label: size");
+    check(label.pitch == 24, "mz_label: pitch");
+    check(label.first == 0 && label.end == 17, "mz_label: band");
+}
+
+static void label_of_zeros_draws_nothing(void) {
+    static const uint8_t zeros[12] = {0};
+    List list = rectangle();
+    MzLabel label;
+    memset(&label, 0, sizeof label);
+    label.width = 4;
+    label.height = 3;
+    label.pitch = 4;
+    label.end = 3;
+    Call call = call_for(&list, label);
+    MzDrawn drawn = draw(&call);
+    check(drawn.number == MZ_ACCEPTED && drawn.records == 5, "a label of zeros: answer");
+    check(masked(&call, zeros, LENGTH(zeros)), "a label of zeros: mask");
+}
+
+static void refusals_have_words(void) {
+    static const char *const words[] = {
+        "accepted",
+        "the width or the height is above 2,048 pixels",
+        "the band does not lie within the label",
+        "the pitch is below the width or above 65,536 bytes",
+        "the mask is too short for the band",
+        "the workspace has fewer words than the band has rows",
+        "a transform entry or an offset part is NaN or infinite",
+        "the path list is longer than 65,536 bytes",
+        "the end of the list cuts the record",
+        "the record's kind is not 1 to 5",
+        "the record's length is not its kind's",
+        "the first record is not a MoveTo",
+        "a point is NaN, infinite, or 1/256 of a pixel or more beyond 2,048 from zero",
+        "the drawing needs more places than the workspace has room for",
+        "an unknown refusal",
+    };
+    for (uint32_t number = 0; number < LENGTH(words); number += 1) {
+        check(strcmp(mz_words(number), words[number]) == 0, words[number]);
+    }
+    check(strcmp(mz_words(UINT32_MAX), words[14]) == 0, words[14]);
+}
+
+static void words_are_counted(void) {
+    static uint32_t words[MZ_BANDS_WORDS(11, 3, 30)];
+    check(LENGTH(words) == 123, "MZ_BANDS_WORDS of a band and its places");
+    check(MZ_BANDS_WORDS(240, 1, 5) == 240, "MZ_BANDS_WORDS of more rows than that");
+    check(MZ_BANDS_WORDS(10, 0, 5) == 21, "MZ_BANDS_WORDS with step 0");
+    check(MZ_BANDS_WORDS(10, 50, 5) == 30, "MZ_BANDS_WORDS with a step above all rows");
+    check(MZ_BANDS_WORDS(0, 4, 0) == 0, "MZ_BANDS_WORDS of no rows");
+    check(MZ_BANDS_WORDS(0, 0, 0) == 0, "MZ_BANDS_WORDS of no rows with step 0");
+    check(MZ_BANDS_WORDS(5 + 6, 2 | 1, 15 + 15) == 123, "MZ_BANDS_WORDS of sums");
+    check(MZ_WORKSPACE_WORDS(5 + 6, 90 + 3) == 383, "MZ_WORKSPACE_WORDS");
+}
+
+static void version_is_one(void) {
+    char version[32];
+    snprintf(version, sizeof version, "%d.%d.%d", MZ_VERSION_MAJOR, MZ_VERSION_MINOR,
+             MZ_VERSION_PATCH);
+    check(strcmp(version, MZ_VERSION) == 0, "MZ_VERSION");
+}
+
+/* ---- the rules' own examples */
 
 static void k1_rectangle(void) {
     static const uint8_t bytes[12] = {0, 0, 0, 0, 0, 255, 255, 0, 0, 0, 0, 0};
     List list = rectangle();
     Call call = call_of(&list, 4, 3);
     MzDrawn drawn = draw(&call);
-    check(drawn.number == MZ_ACCEPTED && drawn.index == 0, "K1: number and index");
-    check(drawn.records == 5 && drawn.cells == 2, "K1: records and cells");
+    check(answers(drawn, 5, 2), "K1: answer");
     check(masked(&call, bytes, LENGTH(bytes)), "K1: mask");
     check(wiped(&call), "K1: words");
 }
@@ -196,13 +346,13 @@ static void k1_rectangle(void) {
 static void k1_band_upward(void) {
     static const uint8_t bytes[9] = {0, 0, 0, 0, 0xA5, 0, 255, 255, 0};
     List list = rectangle();
-    Call call = call_of(&list, 4, 3);
-    call.up = true;
-    call.pitch = 5;
-    call.first = 1;
-    call.mask_len = LENGTH(bytes);
+    MzLabel label = mz_label(4, 3);
+    label.up = true;
+    label.pitch = 5;
+    label.first = 1;
+    Call call = call_for(&list, label);
     MzDrawn drawn = draw(&call);
-    check(drawn.number == MZ_ACCEPTED && drawn.cells == 2, "K1 in a band: answer");
+    check(answers(drawn, 5, 2), "K1 in a band: answer");
     check(masked(&call, bytes, LENGTH(bytes)), "K1 in a band: mask");
     check(wiped(&call), "K1 in a band: words");
 }
@@ -212,14 +362,14 @@ static void k1_in_bands(void) {
     static const size_t steps[] = {0, 1, 2, 3, SIZE_MAX};
     List list = rectangle();
     for (size_t at = 0; at < 4 * LENGTH(steps); at += 1) {
-        Call call = call_of(&list, 4, 3);
-        call.up = at % 2 == 1;
-        call.first = at / 2 % 2;
+        MzLabel label = mz_label(4, 3);
+        label.up = at % 2 == 1;
+        label.first = at / 2 % 2;
+        Call call = call_for(&list, label);
         Call at_once = call;
         MzDrawn whole = draw(&at_once);
         MzDrawn drawn = draw_in_bands(&call, steps[at / 4]);
-        check(drawn.number == MZ_ACCEPTED && drawn.index == 0, "K1 in bands: number and index");
-        check(drawn.records == 5 && drawn.cells == whole.cells, "K1 in bands: records and cells");
+        check(answers(drawn, 5, whole.cells), "K1 in bands: answer");
         check(memcmp(call.mask, at_once.mask, sizeof call.mask) == 0, "K1 in bands: mask");
         check(wiped(&call), "K1 in bands: words");
     }
@@ -239,8 +389,7 @@ static void bands_need_less_room(void) {
     expect_refusal_in_bands(call, 2, MZ_ROOM, 0);
     Call row_by_row = call;
     MzDrawn drawn = draw_in_bands(&row_by_row, 1);
-    check(drawn.number == MZ_ACCEPTED && drawn.records == 5, "less room: number and records");
-    check(drawn.cells == 3, "less room: cells");
+    check(answers(drawn, 5, 3), "less room: answer");
     check(masked(&row_by_row, full, LENGTH(full)), "less room: mask");
     check(wiped(&row_by_row), "less room: words");
     move_to(&list, 2, 2);
@@ -253,7 +402,7 @@ static void k8_lone_move(void) {
     Call call = call_of(&list, 1, 1);
     call.words_len = MZ_WORKSPACE_WORDS(1, 1);
     MzDrawn drawn = draw(&call);
-    check(drawn.number == MZ_ACCEPTED && drawn.records == 1 && drawn.cells == 1, "K8: answer");
+    check(answers(drawn, 1, 1), "K8: answer");
     check(call.mask[0] == 0 && wiped(&call), "K8: mask and words");
     Call one_word = call_of(&list, 1, 1);
     one_word.words_len = 1;
@@ -263,71 +412,159 @@ static void k8_lone_move(void) {
 static void k11_placement(void) {
     List list = one_move(0.5f, 0.25f);
     line_to(&list, 3.25f, 2);
-    MzPlacement placed = mz_placement(list.bytes, list.len, IDENTITY, -1, 1, true);
+    MzPlacement placed = mz_placement(list.bytes, list.len, mz_identity(), -1, 1, true);
     check(placed.number == MZ_ACCEPTED && placed.index == 0, "K11: number and index");
     check(placed.width == 4 && placed.height == 2, "K11: size");
     check(placed.left == -1 && placed.top == 3, "K11: left and top");
     check(placed.offset_x == 1 && placed.offset_y == -1, "K11: offset");
-    MzPlacement from_top = mz_placement(list.bytes, list.len, IDENTITY, -1, 1, false);
+    MzPlacement from_top = mz_placement(list.bytes, list.len, mz_identity(), -1, 1, false);
     check(from_top.left == -1 && from_top.top == 1, "K11 from the top: left and top");
-    MzBounds bounds = mz_bounds(list.bytes, list.len, IDENTITY);
+    MzBounds bounds = mz_bounds(list.bytes, list.len, mz_identity());
     check(bounds.number == MZ_ACCEPTED, "K11: the box is accepted");
     check(bounds.min_x == 0.5f && bounds.min_y == 0.25f, "K11: the box's minimum");
     check(bounds.max_x == 3.25f && bounds.max_y == 2, "K11: the box's maximum");
 }
 
-/* An empty list, lent with a pointer that is not NULL. */
-static void k12_empty_list(void) {
-    static const uint8_t zeros[4] = {0, 0, 0, 0};
+/* ---- nothing lent: any pointer will do */
+
+/* K12 and its kin with this list, whose length is 0. */
+static void empty_list_draws_nothing(const uint8_t *bytes) {
+    static const uint8_t zeros[6] = {0};
     List list = empty_list();
-    Call call = call_of(&list, 2, 2);
+    Call call = call_of(&list, 3, 2);
+    call.list = bytes;
+    Call in_bands = call;
     MzDrawn drawn = draw(&call);
-    check(drawn.number == MZ_ACCEPTED && drawn.records == 0 && drawn.cells == 0, "K12: answer");
+    check(answers(drawn, 0, 0), "K12: answer");
     check(masked(&call, zeros, LENGTH(zeros)) && wiped(&call), "K12: mask and words");
-    MzBounds bounds = mz_bounds(list.bytes, 0, IDENTITY);
-    check(bounds.number == MZ_ACCEPTED && bounds.max_x == 0 && bounds.max_y == 0, "K12: box");
+    drawn = draw_in_bands(&in_bands, 1);
+    check(answers(drawn, 0, 0), "K12 in bands: answer");
+    check(masked(&in_bands, zeros, LENGTH(zeros)) && wiped(&in_bands), "K12 in bands: mask");
+    MzBounds box = mz_bounds(bytes, 0, mz_identity());
+    check(box.number == MZ_ACCEPTED && box.max_x == 0 && box.max_y == 0, "K12: box");
+    MzPlacement placed = mz_placement(bytes, 0, mz_identity(), 0.5f, 0.5f, false);
+    check(placed.number == MZ_ACCEPTED && placed.width == 1 && placed.height == 1, "K12: place");
 }
+
+/* No rows with nothing at all; rows of no width with no mask; rows with no mask or no words. */
+static void nothing_is_lent(uint8_t *mask, uint32_t *words) {
+    List list = rectangle();
+    const uint8_t *bytes = list.bytes;
+    uint32_t lent[64];
+    MzLabel flat = mz_label(4, 0);
+    MzDrawn drawn = mz_draw(bytes, list.len, flat, mask, 0, words, 0);
+    check(answers(drawn, 5, 0), "no rows: answer");
+    drawn = mz_draw_in_bands(bytes, list.len, flat, 1, mask, 0, words, 0);
+    check(answers(drawn, 5, 0), "no rows in bands: answer");
+    MzLabel narrow = mz_label(0, 3);
+    drawn = mz_draw(bytes, list.len, narrow, mask, 0, lent, LENGTH(lent));
+    check(drawn.number == MZ_ACCEPTED && drawn.records == 5, "no columns: answer");
+    drawn = mz_draw_in_bands(bytes, list.len, narrow, 2, mask, 0, lent, LENGTH(lent));
+    check(drawn.number == MZ_ACCEPTED && drawn.records == 5, "no columns in bands: answer");
+    drawn = mz_draw(bytes, list.len, mz_label(4, 3), mask, 0, lent, LENGTH(lent));
+    check(drawn.number == MZ_MASK, "no mask");
+    drawn = mz_draw(bytes, list.len, narrow, mask, 0, words, 0);
+    check(drawn.number == MZ_WORKSPACE, "no words");
+}
+
+static void length_0_takes_any_pointer(void) {
+    List list = empty_list();
+    uint8_t byte = 7;
+    uint32_t word = 7;
+    empty_list_draws_nothing(list.bytes);
+    empty_list_draws_nothing(NULL);
+    nothing_is_lent(&byte, &word);
+    nothing_is_lent(NULL, NULL);
+    check(byte == 7 && word == 7, "nothing is written where nothing is lent");
+#ifdef __cplusplus
+    std::vector<uint8_t> no_bytes;
+    std::vector<uint32_t> no_words;
+    empty_list_draws_nothing(no_bytes.data());
+    nothing_is_lent(no_bytes.data(), no_words.data());
+#endif
+}
+
+/* ---- every refusal, and what is just within */
 
 /* 1 to 6. */
 static void sizes_and_floats_are_refused(void) {
     List list = rectangle();
-    Call call = call_of(&list, 4, 3);
-    call.width = 2049;
+    const Call good = call_of(&list, 4, 3);
+    Call call = good;
+    call.label.width = MZ_MOST_SIDE + 1;
     expect_refusal(call, MZ_SIZE, 0);
-    call = call_of(&list, 4, 3);
-    call.end = 4;
+    call = good;
+    call.label.height = MZ_MOST_SIDE + 1;
+    expect_refusal(call, MZ_SIZE, 0);
+    call = good;
+    call.label.end = 4;
     expect_refusal(call, MZ_BAND, 0);
-    call = call_of(&list, 4, 3);
-    call.pitch = 3;
+    call = good;
+    call.label.first = 3;
+    call.label.end = 2;
+    expect_refusal(call, MZ_BAND, 0);
+    call = good;
+    call.label.pitch = 3;
     expect_refusal(call, MZ_PITCH, 0);
-    call = call_of(&list, 4, 3);
+    call = good;
+    call.label.pitch = MZ_MOST_PITCH + 1;
+    expect_refusal(call, MZ_PITCH, 0);
+    call = good;
     call.mask_len = 11;
     expect_refusal(call, MZ_MASK, 0);
-    call = call_of(&list, 4, 3);
+    call = good;
     call.words_len = 2;
     expect_refusal(call, MZ_WORKSPACE, 0);
-    call = call_of(&list, 4, 3);
-    call.offset_y = INFINITY;
+    call = good;
+    call.label.offset_y = INFINITY;
+    expect_refusal(call, MZ_FLOAT, 0);
+    call = good;
+    call.label.transform.yx = NAN;
     expect_refusal(call, MZ_FLOAT, 0);
 }
 
-/* 7: one byte more than may be. */
-static void long_list_is_refused(void) {
+/* As wide and as long as may be; the longest list has a kind of 0, and one byte more is 7. */
+static void the_most_is_accepted(void) {
     static uint8_t bytes[MZ_MOST_LIST + 1];
     List none = empty_list();
     Call call = call_of(&none, 4, 3);
     call.list = bytes;
-    call.list_len = sizeof bytes;
+    call.list_len = MZ_MOST_LIST;
+    expect_refusal(call, MZ_KIND, 0);
+    call.list_len = MZ_MOST_LIST + 1;
     expect_refusal(call, MZ_LIST, 0);
+    MzLabel label = mz_label(0, MZ_MOST_SIDE);
+    label.pitch = MZ_MOST_PITCH;
+    label.end = 1;
+    call = call_for(&none, label);
+    MzDrawn drawn = draw(&call);
+    check(answers(drawn, 0, 0), "the largest height and pitch");
+    static uint8_t mask[MZ_MOST_SIDE];
+    drawn = mz_draw(NULL, 0, mz_label(MZ_MOST_SIDE, 1), mask, sizeof mask, call.words, 1);
+    check(answers(drawn, 0, 0), "the largest width");
+}
+
+/* As many places as a pool may have; with one more it is 13, however many words there are. */
+static void the_most_cells_are_drawn(void) {
+    static uint8_t mask[MZ_MOST_SIDE * 9];
+    static uint32_t words[MZ_WORKSPACE_WORDS(9, MZ_MOST_CELLS + 1)];
+    MzLabel label = mz_label(MZ_MOST_SIDE, 9);
+    List list = every_place_of_eight_rows();
+    move_to(&list, 0, 7);
+    MzDrawn drawn = mz_draw(list.bytes, list.len, label, mask, sizeof mask, words, LENGTH(words));
+    check(answers(drawn, 137, MZ_MOST_CELLS), "the most cells");
+    move_to(&list, 0, 8);
+    drawn = mz_draw(list.bytes, list.len, label, mask, sizeof mask, words, LENGTH(words));
+    check(drawn.number == MZ_ROOM, "one cell more than the most");
 }
 
 /* One record behind K1's five, or alone. */
 static void expect_record_refused(const List *list, uint32_t number, uint32_t index) {
     expect_refusal(call_of(list, 4, 3), number, index);
-    MzBounds bounds = mz_bounds(list->bytes, list->len, IDENTITY);
+    MzBounds bounds = mz_bounds(list->bytes, list->len, mz_identity());
     check(bounds.number == number && bounds.index == index, "bounds: number and index");
     check(bounds.min_x == 0 && bounds.max_y == 0, "bounds: a refused box is 0");
-    MzPlacement placed = mz_placement(list->bytes, list->len, IDENTITY, 0, 0, false);
+    MzPlacement placed = mz_placement(list->bytes, list->len, mz_identity(), 0, 0, false);
     check(placed.number == number && placed.index == index, "placement: number and index");
     check(placed.width == 0 && placed.height == 0, "placement: a refused one is 0");
 }
@@ -356,17 +593,49 @@ static void records_are_refused(void) {
     expect_record_refused(&list, MZ_POINT, 5);
 }
 
-int main(void) {
+/* 12's words are exact: 15/4096 of a pixel beyond 2,048 passes. */
+static void point_just_passes(void) {
+    List list = one_move(2048.003662109375f, 0);
+    Call call = call_of(&list, 4, 3);
+    MzDrawn drawn = draw(&call);
+    check(answers(drawn, 1, 0), "2048.003662109375 passes");
+}
+
+static void rules_examples(void) {
     k1_rectangle();
     k1_band_upward();
     k1_in_bands();
     bands_need_less_room();
     k8_lone_move();
     k11_placement();
-    k12_empty_list();
+    length_0_takes_any_pointer();
+}
+
+static void refusals(void) {
     sizes_and_floats_are_refused();
-    long_list_is_refused();
+    the_most_is_accepted();
+    the_most_cells_are_drawn();
     records_are_refused();
+    point_just_passes();
+}
+
+int main(int argc, char **argv) {
+    if (argc != 2) {
+        fprintf(stderr, "usage: test WORKED, the folder bindings/worked\n");
+        return 2;
+    }
+    slanted(argv[1]);
+    transforms_are_made();
+    transforms_are_combined();
+    transforms_are_applied();
+    slanted_line_is_placed();
+    label_is_whole();
+    label_of_zeros_draws_nothing();
+    refusals_have_words();
+    words_are_counted();
+    version_is_one();
+    rules_examples();
+    refusals();
     printf("C face: %d checks, %d differ\n", checks, failures);
     return failures == 0 ? 0 : 1;
 }
