@@ -5,8 +5,9 @@
  * what differs; exits non-zero if anything does. `run` builds it both ways.
  */
 
-#include "../mosszephyr.h"
 #include "lists.h"
+
+#include <mosszephyr.h>
 
 #include <math.h>
 #include <stdio.h>
