@@ -76,9 +76,9 @@
  *
  * - Each pointer is valid for the length that follows it: list for reads, mask and words for reads
  *   and writes, words of 4 bytes each. A length in bytes is at most PTRDIFF_MAX. With length 0 a
- *   pointer may be anything, NULL too, as an empty std::vector's data() is: nothing is read or
- *   written through it.
- * - words is aligned to 4 bytes, unless its length is 0.
+ *   pointer may be NULL, as an empty std::vector's data() is: nothing is read or written through
+ *   it.
+ * - words is aligned to 4 bytes, as NULL is.
  * - list, mask and words do not overlap, and no other thread writes to them, or reads mask or
  *   words, during the call.
  * - A bool holds 0 or 1, as every bool does that was assigned in C or C++.
