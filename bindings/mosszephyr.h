@@ -369,57 +369,59 @@ MzPoint mz_transform_vector(MzTransform t, float x, float y);
 }
 #endif
 
-/* The archive has these sizes and places. What a compiler lays out otherwise does not compile. */
+/* The archive's sizes, and each field's place and size: laid out otherwise it does not compile. */
 #define MZ_HAS_SIZE(type, size) static_assert(sizeof(type) == (size), "size of " #type)
-#define MZ_STANDS_AT(type, field, at) static_assert(offsetof(type, field) == (at), #type "." #field)
+#define MZ_STANDS_AT(type, field, at, size)                                                        \
+    static_assert(offsetof(type, field) == (at) && sizeof(((type *)0)->field) == (size),           \
+                  #type "." #field)
 
 MZ_HAS_SIZE(MzTransform, 24);
-MZ_STANDS_AT(MzTransform, xx, 0);
-MZ_STANDS_AT(MzTransform, xy, 4);
-MZ_STANDS_AT(MzTransform, yx, 8);
-MZ_STANDS_AT(MzTransform, yy, 12);
-MZ_STANDS_AT(MzTransform, x, 16);
-MZ_STANDS_AT(MzTransform, y, 20);
+MZ_STANDS_AT(MzTransform, xx, 0, 4);
+MZ_STANDS_AT(MzTransform, xy, 4, 4);
+MZ_STANDS_AT(MzTransform, yx, 8, 4);
+MZ_STANDS_AT(MzTransform, yy, 12, 4);
+MZ_STANDS_AT(MzTransform, x, 16, 4);
+MZ_STANDS_AT(MzTransform, y, 20, 4);
 
 MZ_HAS_SIZE(MzPoint, 8);
-MZ_STANDS_AT(MzPoint, x, 0);
-MZ_STANDS_AT(MzPoint, y, 4);
+MZ_STANDS_AT(MzPoint, x, 0, 4);
+MZ_STANDS_AT(MzPoint, y, 4, 4);
 
 MZ_HAS_SIZE(MzLabel, 80);
-MZ_STANDS_AT(MzLabel, transform, 0);
-MZ_STANDS_AT(MzLabel, offset_x, 24);
-MZ_STANDS_AT(MzLabel, offset_y, 28);
-MZ_STANDS_AT(MzLabel, even_odd, 32);
-MZ_STANDS_AT(MzLabel, up, 33);
-MZ_STANDS_AT(MzLabel, width, 40);
-MZ_STANDS_AT(MzLabel, height, 48);
-MZ_STANDS_AT(MzLabel, pitch, 56);
-MZ_STANDS_AT(MzLabel, first, 64);
-MZ_STANDS_AT(MzLabel, end, 72);
+MZ_STANDS_AT(MzLabel, transform, 0, 24);
+MZ_STANDS_AT(MzLabel, offset_x, 24, 4);
+MZ_STANDS_AT(MzLabel, offset_y, 28, 4);
+MZ_STANDS_AT(MzLabel, even_odd, 32, 1);
+MZ_STANDS_AT(MzLabel, up, 33, 1);
+MZ_STANDS_AT(MzLabel, width, 40, 8);
+MZ_STANDS_AT(MzLabel, height, 48, 8);
+MZ_STANDS_AT(MzLabel, pitch, 56, 8);
+MZ_STANDS_AT(MzLabel, first, 64, 8);
+MZ_STANDS_AT(MzLabel, end, 72, 8);
 
 MZ_HAS_SIZE(MzDrawn, 16);
-MZ_STANDS_AT(MzDrawn, number, 0);
-MZ_STANDS_AT(MzDrawn, index, 4);
-MZ_STANDS_AT(MzDrawn, records, 8);
-MZ_STANDS_AT(MzDrawn, cells, 12);
+MZ_STANDS_AT(MzDrawn, number, 0, 4);
+MZ_STANDS_AT(MzDrawn, index, 4, 4);
+MZ_STANDS_AT(MzDrawn, records, 8, 4);
+MZ_STANDS_AT(MzDrawn, cells, 12, 4);
 
 MZ_HAS_SIZE(MzBounds, 24);
-MZ_STANDS_AT(MzBounds, number, 0);
-MZ_STANDS_AT(MzBounds, index, 4);
-MZ_STANDS_AT(MzBounds, min_x, 8);
-MZ_STANDS_AT(MzBounds, min_y, 12);
-MZ_STANDS_AT(MzBounds, max_x, 16);
-MZ_STANDS_AT(MzBounds, max_y, 20);
+MZ_STANDS_AT(MzBounds, number, 0, 4);
+MZ_STANDS_AT(MzBounds, index, 4, 4);
+MZ_STANDS_AT(MzBounds, min_x, 8, 4);
+MZ_STANDS_AT(MzBounds, min_y, 12, 4);
+MZ_STANDS_AT(MzBounds, max_x, 16, 4);
+MZ_STANDS_AT(MzBounds, max_y, 20, 4);
 
 MZ_HAS_SIZE(MzPlacement, 32);
-MZ_STANDS_AT(MzPlacement, number, 0);
-MZ_STANDS_AT(MzPlacement, index, 4);
-MZ_STANDS_AT(MzPlacement, offset_x, 8);
-MZ_STANDS_AT(MzPlacement, offset_y, 12);
-MZ_STANDS_AT(MzPlacement, left, 16);
-MZ_STANDS_AT(MzPlacement, top, 20);
-MZ_STANDS_AT(MzPlacement, width, 24);
-MZ_STANDS_AT(MzPlacement, height, 28);
+MZ_STANDS_AT(MzPlacement, number, 0, 4);
+MZ_STANDS_AT(MzPlacement, index, 4, 4);
+MZ_STANDS_AT(MzPlacement, offset_x, 8, 4);
+MZ_STANDS_AT(MzPlacement, offset_y, 12, 4);
+MZ_STANDS_AT(MzPlacement, left, 16, 4);
+MZ_STANDS_AT(MzPlacement, top, 20, 4);
+MZ_STANDS_AT(MzPlacement, width, 24, 4);
+MZ_STANDS_AT(MzPlacement, height, 28, 4);
 
 #undef MZ_HAS_SIZE
 #undef MZ_STANDS_AT
