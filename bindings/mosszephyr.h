@@ -204,8 +204,8 @@ typedef struct MzPoint {
  *     label.transform = mz_scale(2, 2);
  *     label.pitch = 1024;
  *
- * A label begun with {0} has a transform of zeros, which sends every point to one place: whatever
- * size it is then given, it draws nothing and is refused by nothing.
+ * A label begun with {0} has a transform of zeros, which sends every point to one place: with size,
+ * pitch and end filled in it draws nothing, and is refused by nothing.
  */
 typedef struct MzLabel {
     MzTransform transform; /* applied to every point */
