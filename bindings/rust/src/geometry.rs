@@ -1,8 +1,9 @@
 //! Points, transforms, and where a path lies.
 
-use crate::{face, Path, Refusal};
+use crate::{face, Refusal};
 
 /// A point, or an offset, in pixels.
+#[repr(C)]
 #[derive(Clone, Copy, Debug, Default, PartialEq)]
 pub struct Point {
     /// To the right.
@@ -16,6 +17,7 @@ impl Point {
     pub const ZERO: Point = Point::new(0.0, 0.0);
 
     /// The point (x, y).
+    #[must_use]
     pub const fn new(x: f32, y: f32) -> Point {
         Point { x, y }
     }
@@ -61,13 +63,20 @@ pub struct Transform {
     pub y: f32,
 }
 
+/// Every method calls the library, whose rules for transforms are zeno's.
+///
+/// [`then`](Transform::then) and those that are made from it are what their names say where no
+/// transform has an xy or a yx, as scales and moves have none. Where one has, as in a turned label,
+/// they are not: the rule is zeno's and is kept as it is.
 impl Transform {
     /// Leaves every point where it is.
-    pub const fn identity() -> Transform {
-        Transform::new(1.0, 0.0, 0.0, 1.0, 0.0, 0.0)
+    #[must_use]
+    pub fn identity() -> Transform {
+        face::identity()
     }
 
     /// The transform with these entries.
+    #[must_use]
     pub const fn new(xx: f32, xy: f32, yx: f32, yy: f32, x: f32, y: f32) -> Transform {
         Transform {
             xx,
@@ -79,36 +88,70 @@ impl Transform {
         }
     }
 
+    /// Moves every point by (x, y).
+    #[must_use]
+    pub fn translation(x: f32, y: f32) -> Transform {
+        face::translation(x, y)
+    }
+
+    /// Multiplies x by `x` and y by `y`.
+    #[must_use]
+    pub fn scale(x: f32, y: f32) -> Transform {
+        face::scale(x, y)
+    }
+
+    /// This transform a combined with the next, b:
+    ///
+    /// | entry | is |
+    /// |---|---|
+    /// | xx | a.xx · b.xx + a.yx · b.xy |
+    /// | xy | a.xy · b.xx + a.yy · b.xy |
+    /// | yx | a.xx · b.yx + a.yx · b.yy |
+    /// | yy | a.xy · b.yx + a.yy · b.yy |
+    /// | x | a.x · b.xx + a.y · b.xy + b.x |
+    /// | y | a.x · b.yx + a.y · b.yy + b.y |
+    #[must_use]
+    pub fn then(self, next: Transform) -> Transform {
+        face::then(self, next)
+    }
+
     /// This transform combined with a scale: xx, xy and x are multiplied by `x`, yx, yy and y by
     /// `y`.
-    ///
-    /// That is this transform followed by the scale where xy and yx are 0. Where they are not, as
-    /// in a turned label, it is not: the rule is zeno's and is kept as it is.
+    #[must_use]
     pub fn then_scale(self, x: f32, y: f32) -> Transform {
-        self.combine(Transform::new(x, 0.0, 0.0, y, 0.0, 0.0))
+        face::then_scale(self, x, y)
     }
 
     /// This transform followed by a move: adds to x and y.
+    #[must_use]
     pub fn then_translate(self, x: f32, y: f32) -> Transform {
-        Transform {
-            x: self.x + x,
-            y: self.y + y,
-            ..self
-        }
+        face::then_translate(self, x, y)
     }
 
-    /// The rule for two transforms, with every product and sum in its order: it shows in the sign
-    /// of zeros and with infinite entries.
-    fn combine(self, b: Transform) -> Transform {
-        let a = self;
-        Transform {
-            xx: a.xx * b.xx + a.yx * b.xy,
-            xy: a.xy * b.xx + a.yy * b.xy,
-            yx: a.xx * b.yx + a.yx * b.yy,
-            yy: a.xy * b.yx + a.yy * b.yy,
-            x: a.x * b.xx + a.y * b.xy + b.x,
-            y: a.x * b.yx + a.y * b.yy + b.y,
-        }
+    /// A scale combined with this transform: xx and yx are multiplied by `x`, xy and yy by `y`.
+    #[must_use]
+    pub fn pre_scale(self, x: f32, y: f32) -> Transform {
+        face::pre_scale(self, x, y)
+    }
+
+    /// A move combined with this transform: x · xx + y · xy is added to x, and x · yx + y · yy to y.
+    #[must_use]
+    pub fn pre_translate(self, x: f32, y: f32) -> Transform {
+        face::pre_translate(self, x, y)
+    }
+
+    /// Where a point goes.
+    #[must_use]
+    pub fn transform_point(self, point: impl Into<Point>) -> Point {
+        let point = point.into();
+        face::transform_point(self, point.x, point.y)
+    }
+
+    /// Where a difference of points goes: as a point, without the last sums.
+    #[must_use]
+    pub fn transform_vector(self, vector: impl Into<Point>) -> Point {
+        let vector = vector.into();
+        face::transform_vector(self, vector.x, vector.y)
     }
 }
 
@@ -147,15 +190,17 @@ pub struct Placement {
     /// Where its top belongs.
     pub top: i32,
     /// The mask's width, in pixels.
-    pub width: u32,
+    pub width: usize,
     /// The mask's height.
-    pub height: u32,
+    pub height: usize,
 }
 
 /// The box of all transformed points of a path, control points included; zeros for an empty path.
 /// Of parts that are equal, as 0 and −0 are, the first stays.
 ///
-/// Refuses with 6 to 12, the point rule judging the points without any offset.
+/// # Errors
+///
+/// 6 to 12, the point rule judging the points without any offset.
 ///
 /// ```
 /// use mosszephyr::{bounds, Path, Point, Transform};
@@ -166,8 +211,8 @@ pub struct Placement {
 /// assert_eq!((found.min, found.max), (Point::new(0.5, 0.25), Point::new(3.25, 2.0)));
 /// # Ok::<(), mosszephyr::Refusal>(())
 /// ```
-pub fn bounds(path: &Path, transform: Transform) -> Result<Bounds, Refusal> {
-    face::bounds(path.as_bytes(), transform)
+pub fn bounds(list: impl AsRef<[u8]>, transform: Transform) -> Result<Bounds, Refusal> {
+    face::bounds(list.as_ref(), transform)
 }
 
 /// Where a path's label belongs, and how to draw it into a mask that just holds it.
@@ -179,8 +224,12 @@ pub fn bounds(path: &Path, transform: Transform) -> Result<Bounds, Refusal> {
 /// To draw what was placed, use the width, the height and the new offset; where the path was placed
 /// with an offset of its own, the sum of both.
 ///
-/// Refuses with 6 to 12, the point rule judging the points with the offset added; for an empty path
-/// it judges the offset alone. A placement can be larger than a drawing may be.
+/// A placement can be larger than a drawing may be, up to 4098 x 4098.
+///
+/// # Errors
+///
+/// 6 to 12, the point rule judging the points with the offset added; for an empty path it judges
+/// the offset alone, and no record is at fault.
 ///
 /// ```
 /// use mosszephyr::{draw, placement, Label, Origin, Path, Point, Transform};
@@ -191,18 +240,18 @@ pub fn bounds(path: &Path, transform: Transform) -> Result<Bounds, Refusal> {
 /// assert_eq!((placed.left, placed.top), (10, 20));
 /// let label = Label {
 ///     offset: placed.offset,
-///     ..Label::new(placed.width as usize, placed.height as usize)
+///     ..Label::new(placed.width, placed.height)
 /// };
-/// assert_eq!(draw(&path, &label)?.mask, [255, 255]);
+/// assert_eq!(draw(&path, &label)?.mask(), [255, 255]);
 /// # Ok::<(), mosszephyr::Refusal>(())
 /// ```
 pub fn placement(
-    path: &Path,
+    list: impl AsRef<[u8]>,
     transform: Transform,
     offset: Point,
     origin: Origin,
 ) -> Result<Placement, Refusal> {
-    face::placement(path.as_bytes(), transform, offset, origin)
+    face::placement(list.as_ref(), transform, offset, origin)
 }
 
 #[cfg(test)]

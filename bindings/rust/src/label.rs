@@ -2,8 +2,14 @@
 
 use std::ops::Range;
 
-use crate::{face, Origin, Path, Point, Refusal, Transform};
+use crate::{face, Origin, Point, Refusal, Transform};
 
+/// The largest width and height, in pixels.
+pub const MOST_SIDE: usize = 2_048;
+/// The largest pitch, in bytes.
+pub const MOST_PITCH: usize = 65_536;
+/// The longest path list, in bytes.
+pub const MOST_LIST: usize = 65_536;
 /// The most places (column, row) that a workspace has room for, however long it is.
 pub const MOST_CELLS: usize = 16_384;
 
@@ -27,11 +33,11 @@ pub enum Fill {
 /// ```
 #[derive(Clone, Copy, Debug, PartialEq)]
 pub struct Label {
-    /// The whole label's width in pixels, at most 2,048.
+    /// The whole label's width in pixels, at most [`MOST_SIDE`].
     pub width: usize,
-    /// The whole label's height in pixels, at most 2,048.
+    /// The whole label's height in pixels, at most [`MOST_SIDE`].
     pub height: usize,
-    /// Bytes from one mask row to the next: at least the width, at most 65,536.
+    /// Bytes from one mask row to the next: at least the width, at most [`MOST_PITCH`].
     pub pitch: usize,
     /// Applied to every point.
     pub transform: Transform,
@@ -45,16 +51,9 @@ pub struct Label {
 
 impl Label {
     /// A label of this size: rows without gaps, points as they are, nonzero, y down.
-    pub const fn new(width: usize, height: usize) -> Label {
-        Label {
-            width,
-            height,
-            pitch: width,
-            transform: Transform::identity(),
-            offset: Point::ZERO,
-            fill: Fill::NonZero,
-            origin: Origin::TopLeft,
-        }
+    #[must_use]
+    pub fn new(width: usize, height: usize) -> Label {
+        face::label(width, height)
     }
 }
 
@@ -62,21 +61,9 @@ impl Label {
 #[derive(Clone, Copy, Debug, PartialEq, Eq, Hash)]
 pub struct Drawn {
     /// How many records the path has.
-    pub records: u32,
+    pub records: usize,
     /// How many distinct places (column, row) the drawing stored.
-    pub cells: u32,
-}
-
-/// A whole label, drawn.
-#[derive(Clone, Debug, PartialEq, Eq, Hash)]
-pub struct Picture {
-    /// A byte a pixel, 0 for no ink to 255 for full: `height` rows of `width` bytes, each `pitch`
-    /// bytes behind the one before.
-    pub mask: Vec<u8>,
-    /// How many records the path has.
-    pub records: u32,
-    /// How many distinct places (column, row) the drawing stored.
-    pub cells: u32,
+    pub cells: usize,
 }
 
 /// How many bytes a mask needs for `rows` rows: pitch · (rows − 1) + width, and 0 for no rows.
@@ -89,6 +76,7 @@ pub struct Picture {
 /// assert_eq!(mask_bytes(4, 0, 8), Some(0));
 /// assert_eq!(mask_bytes(4, 3, usize::MAX), None);
 /// ```
+#[must_use]
 pub const fn mask_bytes(width: usize, rows: usize, pitch: usize) -> Option<usize> {
     if rows == 0 {
         return Some(0);
@@ -99,7 +87,7 @@ pub const fn mask_bytes(width: usize, rows: usize, pitch: usize) -> Option<usize
     }
 }
 
-/// How many words a workspace needs for `rows` rows and `cells` places: rows + 4 · cells. Nothing
+/// How many words [`draw_band`] needs for `rows` rows and `cells` places: rows + 4 · cells. Nothing
 /// where that is too large a number.
 ///
 /// A drawing stores at most (width + 1) · rows places, and has room for at most [`MOST_CELLS`].
@@ -110,6 +98,7 @@ pub const fn mask_bytes(width: usize, rows: usize, pitch: usize) -> Option<usize
 /// assert_eq!(workspace_words(3, 2), Some(11));
 /// assert_eq!(workspace_words(0, usize::MAX), None);
 /// ```
+#[must_use]
 pub const fn workspace_words(rows: usize, cells: usize) -> Option<usize> {
     match cells.checked_mul(4) {
         Some(pool) => pool.checked_add(rows),
@@ -117,30 +106,25 @@ pub const fn workspace_words(rows: usize, cells: usize) -> Option<usize> {
     }
 }
 
-/// Draws a whole label into a mask of its own.
-///
-/// Refuses with 1, 3, 6 to 12, and with 13 where the label stores more than [`MOST_CELLS`] places;
-/// such a label can be drawn in bands ([`draw_in_bands`]). Nothing is allocated for a label that is too large.
+/// How many words [`draw_in_bands`] needs for `rows` rows, `step` of them a band, and `cells` places
+/// in the fullest band: a word for each row of a band and four for each place, but at least as many
+/// as there are rows in all. Nothing where that is too large a number.
 ///
 /// ```
-/// use mosszephyr::{draw, Label, Path, Refusal};
+/// use mosszephyr::bands_words;
 ///
-/// let picture = draw(&Path::new(), &Label::new(2, 2))?;
-/// assert_eq!(picture.mask, [0; 4]);
-/// let refusal = draw(&Path::new(), &Label::new(2049, 1)).unwrap_err();
-/// assert_eq!(refusal.number(), Refusal::SIZE);
-/// # Ok::<(), Refusal>(())
+/// assert_eq!(bands_words(30, 10, 7), Some(38));
+/// assert_eq!(bands_words(30, 0, 7), Some(30), "a step of 0 counts as 1");
+/// assert_eq!(bands_words(30, 99, 7), Some(58));
 /// ```
-pub fn draw(path: &Path, label: &Label) -> Result<Picture, Refusal> {
-    judge_sizes(label)?;
-    let mut mask = lent(mask_bytes(label.width, label.height, label.pitch));
-    let mut words = lent(workspace_words(label.height, most_places(label)));
-    let drawn = draw_band(path, label, 0..label.height, &mut mask, &mut words)?;
-    Ok(Picture {
-        mask,
-        records: drawn.records,
-        cells: drawn.cells,
-    })
+#[must_use]
+pub const fn bands_words(rows: usize, step: usize, cells: usize) -> Option<usize> {
+    let step = if step == 0 { 1 } else { step };
+    let band = if step < rows { step } else { rows };
+    match workspace_words(band, cells) {
+        Some(words) if words < rows => Some(rows),
+        words => words,
+    }
 }
 
 /// Draws the rows `band` of a label into a lent mask, with a lent workspace.
@@ -152,7 +136,11 @@ pub fn draw(path: &Path, label: &Label) -> Result<Picture, Refusal> {
 ///
 /// An accepted drawing writes `width` bytes in each row and no others, and leaves all words 0. A
 /// refusal leaves the mask as it was. Refusal 13 leaves all words 0, the others leave them as they
-/// were. Refuses with 1 to 13.
+/// were.
+///
+/// # Errors
+///
+/// 1 to 13.
 ///
 /// ```
 /// use mosszephyr::{draw_band, mask_bytes, workspace_words, Label, Path};
@@ -167,63 +155,51 @@ pub fn draw(path: &Path, label: &Label) -> Result<Picture, Refusal> {
 /// # Ok::<(), mosszephyr::Refusal>(())
 /// ```
 pub fn draw_band(
-    path: &Path,
+    list: impl AsRef<[u8]>,
     label: &Label,
     band: Range<usize>,
     mask: &mut [u8],
     words: &mut [u32],
 ) -> Result<Drawn, Refusal> {
-    face::draw(path.as_bytes(), label, band, mask, words)
+    face::draw(list.as_ref(), label, band, mask, words)
 }
 
 /// Draws the rows `band` of a label as [`draw_band`] does, in bands of `step` rows from its first on,
 /// the last with what is left; a step of 0 counts as 1. A workspace with too little room for all
 /// rows can have enough for each band, which has all words but one for each of its own rows.
 ///
-/// Mask and words are lent for all rows, as to [`draw_band`], and left as by it. Refuses with 1 to
-/// 12 as it does, and with 13 where one of the bands stores more places than it has room for; the
-/// mask is then as it was. What [`draw_band`] accepts gives the same here, with any step. The path
-/// is read anew for each band, so few rows cost time.
+/// Mask and words are lent for all rows, as to [`draw_band`], and left as by it; [`bands_words`]
+/// counts the words. What [`draw_band`] accepts gives the same here, with any step. The path is read
+/// anew for each band, so few rows cost time.
+///
+/// # Errors
+///
+/// 1 to 12 as [`draw_band`] has them, and 13 where one of the bands stores more places than it has
+/// room for; the mask is then as it was.
 ///
 /// ```
-/// use mosszephyr::{draw_band, draw_in_bands, workspace_words, Drawn, Label, Path, Refusal};
+/// use mosszephyr::{bands_words, draw_band, draw_in_bands, Drawn, Label, Path, Refusal};
 ///
 /// let mut path = Path::new();
 /// path.move_to((1.0, 0.0)).line_to((3.0, 0.0)).line_to((3.0, 3.0)).line_to((1.0, 3.0));
 /// let label = Label::new(4, 3);
-/// let (mut mask, mut words) = ([7; 12], vec![0; workspace_words(3, 2).unwrap()]);
-/// let refusal = draw_band(&path, &label, 0..3, &mut mask, &mut words).unwrap_err();
-/// assert_eq!((refusal.number(), mask), (Refusal::ROOM, [7; 12]));
+/// let (mut mask, mut words) = ([7; 12], vec![0; bands_words(3, 1, 2).unwrap()]);
+/// let refusal = draw_band(&path, &label, 0..3, &mut mask, &mut words);
+/// assert_eq!((refusal, mask), (Err(Refusal::Room), [7; 12]));
 /// let drawn = draw_in_bands(&path, &label, 0..3, 1, &mut mask, &mut words)?;
 /// assert_eq!(drawn, Drawn { records: 4, cells: 6 });
 /// assert_eq!(mask, [0, 255, 255, 0, 0, 255, 255, 0, 0, 255, 255, 0]);
 /// # Ok::<(), Refusal>(())
 /// ```
 pub fn draw_in_bands(
-    path: &Path,
+    list: impl AsRef<[u8]>,
     label: &Label,
     band: Range<usize>,
     step: usize,
     mask: &mut [u8],
     words: &mut [u32],
 ) -> Result<Drawn, Refusal> {
-    face::draw_in_bands(path.as_bytes(), label, band, step, mask, words)
-}
-
-/// Refusals 1, 3 and 6, asked of the library with an empty path and no rows, for which it is lent
-/// nothing. What passes is small enough to be allocated.
-fn judge_sizes(label: &Label) -> Result<(), Refusal> {
-    face::draw(&[], label, 0..0, &mut [], &mut []).map(drop)
-}
-
-/// How many places a whole label may store, column −1 included, as far as there is room.
-fn most_places(label: &Label) -> usize {
-    let places = label.width.saturating_add(1).saturating_mul(label.height);
-    places.min(MOST_CELLS)
-}
-
-fn lent<T: Clone + Default>(count: Option<usize>) -> Vec<T> {
-    vec![T::default(); count.expect("a label whose sizes pass is small")]
+    face::draw_in_bands(list.as_ref(), label, band, step, mask, words)
 }
 
 #[cfg(test)]
@@ -238,12 +214,25 @@ mod tests {
         assert_eq!(workspace_words(0, most / 4 + 1), None);
         assert_eq!(mask_bytes(most, 1, most), Some(most));
         assert_eq!(mask_bytes(1, 2, most), None);
+        assert_eq!(bands_words(most, most, 0), Some(most));
+        assert_eq!(bands_words(most, most, 1), None);
+        assert_eq!(bands_words(0, 1, most), None);
     }
 
     #[test]
-    fn places_are_no_more_than_there_is_room_for() {
-        assert_eq!(most_places(&Label::new(4, 3)), 15);
-        assert_eq!(most_places(&Label::new(2048, 2048)), MOST_CELLS);
-        assert_eq!(most_places(&Label::new(usize::MAX, 1)), MOST_CELLS);
+    fn bands_words_are_the_larger_of_two_counts() {
+        assert_eq!(
+            bands_words(4, 2, 4),
+            Some(18),
+            "a band of 2 rows with 4 places"
+        );
+        assert_eq!(bands_words(100, 2, 4), Some(100), "5 asks for all rows");
+        assert_eq!(
+            bands_words(4, 9, 4),
+            Some(20),
+            "no band has more rows than there are"
+        );
+        assert_eq!(bands_words(4, 0, 4), Some(17), "a step of 0 counts as 1");
+        assert_eq!(bands_words(0, 0, 4), Some(16), "no rows need no word");
     }
 }

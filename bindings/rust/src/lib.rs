@@ -15,8 +15,8 @@
 //!     .line_to((1.0, 2.0))
 //!     .close();
 //! let picture = draw(&path, &Label::new(4, 3))?;
-//! assert_eq!(picture.mask, [0, 0, 0, 0, 0, 255, 255, 0, 0, 0, 0, 0]);
-//! assert_eq!((picture.records, picture.cells), (5, 2));
+//! assert_eq!(picture.mask(), [0, 0, 0, 0, 0, 255, 255, 0, 0, 0, 0, 0]);
+//! assert_eq!((picture.records(), picture.cells()), (5, 2));
 //! # Ok::<(), mosszephyr::Refusal>(())
 //! ```
 //!
@@ -30,16 +30,22 @@
 #![warn(missing_docs)]
 #![deny(unsafe_code)]
 
+mod command;
 mod face;
 mod geometry;
 mod label;
 mod path;
+mod picture;
 mod refusal;
+mod workspace;
 
+pub use command::{commands, Command, Commands};
 pub use geometry::{bounds, placement, Bounds, Origin, Placement, Point, Transform};
 pub use label::{
-    draw, draw_band, draw_in_bands, mask_bytes, workspace_words, Drawn, Fill, Label, Picture,
-    MOST_CELLS,
+    bands_words, draw_band, draw_in_bands, mask_bytes, workspace_words, Drawn, Fill, Label,
+    MOST_CELLS, MOST_LIST, MOST_PITCH, MOST_SIDE,
 };
 pub use path::Path;
-pub use refusal::Refusal;
+pub use picture::{draw, Picture};
+pub use refusal::{At, Refusal};
+pub use workspace::{Band, Bands, Workspace};

@@ -1,6 +1,9 @@
 //! The path list: records behind each other, written as bytes.
 
-use crate::Point;
+use std::fmt;
+
+use crate::command::Kind;
+use crate::{commands, Command, Commands, Point};
 
 /// A path as the bytes of its list.
 ///
@@ -29,28 +32,40 @@ use crate::Point;
 /// assert_eq!(path.as_bytes(), bytes);
 /// assert_eq!(path, Path::from_bytes(bytes));
 /// ```
-#[derive(Clone, Debug, Default, PartialEq, Eq, Hash)]
+///
+/// It is written from [`Command`]s too, and read back as such:
+///
+/// ```
+/// use mosszephyr::{Command, Path, Point};
+///
+/// let square = [
+///     Command::MoveTo(Point::new(1.0, 1.0)),
+///     Command::LineTo(Point::new(3.0, 1.0)),
+///     Command::LineTo(Point::new(3.0, 3.0)),
+///     Command::LineTo(Point::new(1.0, 3.0)),
+///     Command::Close,
+/// ];
+/// let path: Path = square.into_iter().collect();
+/// let read: Vec<Command> = path.commands().collect::<Result<_, _>>()?;
+/// assert_eq!(read, square);
+/// # Ok::<(), mosszephyr::Refusal>(())
+/// ```
+///
+/// `{:?}` shows the commands and, where the bytes are no list, the refusal behind them.
+#[derive(Clone, Default, PartialEq, Eq, Hash)]
 pub struct Path {
     bytes: Vec<u8>,
 }
 
-/// The kinds of record.
-#[derive(Clone, Copy)]
-enum Kind {
-    MoveTo = 1,
-    LineTo = 2,
-    QuadTo = 3,
-    CurveTo = 4,
-    Close = 5,
-}
-
 impl Path {
     /// An empty path.
+    #[must_use]
     pub const fn new() -> Path {
         Path { bytes: Vec::new() }
     }
 
     /// A path of these bytes, whatever they are. A `Vec<u8>` is taken over uncopied.
+    #[must_use]
     pub fn from_bytes(bytes: impl Into<Vec<u8>>) -> Path {
         Path {
             bytes: bytes.into(),
@@ -58,28 +73,46 @@ impl Path {
     }
 
     /// The list's bytes.
+    #[must_use]
     pub fn as_bytes(&self) -> &[u8] {
         &self.bytes
     }
 
     /// The list's bytes, handed over uncopied.
+    #[must_use]
     pub fn into_bytes(self) -> Vec<u8> {
         self.bytes
     }
 
+    /// The path's commands, each as the library would read it: see [`commands`](crate::commands).
+    pub fn commands(&self) -> Commands<'_> {
+        commands(self)
+    }
+
+    /// Adds a command.
+    pub fn push(&mut self, command: Command) -> &mut Path {
+        match command {
+            Command::MoveTo(p) => self.record(Kind::MoveTo, &[p]),
+            Command::LineTo(p) => self.record(Kind::LineTo, &[p]),
+            Command::QuadTo(c, p) => self.record(Kind::QuadTo, &[c, p]),
+            Command::CurveTo(c1, c2, p) => self.record(Kind::CurveTo, &[c1, c2, p]),
+            Command::Close => self.record(Kind::Close, &[]),
+        }
+    }
+
     /// Begins a subpath at a point.
     pub fn move_to(&mut self, p: impl Into<Point>) -> &mut Path {
-        self.record(Kind::MoveTo, &[p.into()])
+        self.push(Command::MoveTo(p.into()))
     }
 
     /// A line to a point.
     pub fn line_to(&mut self, p: impl Into<Point>) -> &mut Path {
-        self.record(Kind::LineTo, &[p.into()])
+        self.push(Command::LineTo(p.into()))
     }
 
     /// A quadratic curve with a control point to a point.
     pub fn quad_to(&mut self, control: impl Into<Point>, p: impl Into<Point>) -> &mut Path {
-        self.record(Kind::QuadTo, &[control.into(), p.into()])
+        self.push(Command::QuadTo(control.into(), p.into()))
     }
 
     /// A cubic curve with two control points to a point.
@@ -89,23 +122,63 @@ impl Path {
         control2: impl Into<Point>,
         p: impl Into<Point>,
     ) -> &mut Path {
-        self.record(Kind::CurveTo, &[control1.into(), control2.into(), p.into()])
+        self.push(Command::CurveTo(control1.into(), control2.into(), p.into()))
     }
 
     /// Closes the subpath.
     pub fn close(&mut self) -> &mut Path {
-        self.record(Kind::Close, &[])
+        self.push(Command::Close)
     }
 
     fn record(&mut self, kind: Kind, points: &[Point]) -> &mut Path {
-        let length = 2 + 8 * points.len() as u16;
-        self.bytes.extend(length.to_le_bytes());
+        self.bytes.extend(kind.length().to_le_bytes());
         self.bytes.extend((kind as u16).to_le_bytes());
         for point in points {
             self.bytes.extend(point.x.to_le_bytes());
             self.bytes.extend(point.y.to_le_bytes());
         }
         self
+    }
+}
+
+impl Extend<Command> for Path {
+    fn extend<I: IntoIterator<Item = Command>>(&mut self, commands: I) {
+        for command in commands {
+            self.push(command);
+        }
+    }
+}
+
+impl<'a> Extend<&'a Command> for Path {
+    fn extend<I: IntoIterator<Item = &'a Command>>(&mut self, commands: I) {
+        self.extend(commands.into_iter().copied());
+    }
+}
+
+impl FromIterator<Command> for Path {
+    fn from_iter<I: IntoIterator<Item = Command>>(commands: I) -> Path {
+        let mut path = Path::new();
+        path.extend(commands);
+        path
+    }
+}
+
+impl<'a> FromIterator<&'a Command> for Path {
+    fn from_iter<I: IntoIterator<Item = &'a Command>>(commands: I) -> Path {
+        commands.into_iter().copied().collect()
+    }
+}
+
+impl fmt::Debug for Path {
+    fn fmt(&self, f: &mut fmt::Formatter<'_>) -> fmt::Result {
+        let mut shown = f.debug_list();
+        for read in self.commands() {
+            match read {
+                Ok(command) => shown.entry(&command),
+                Err(refusal) => shown.entry(&refusal),
+            };
+        }
+        shown.finish()
     }
 }
 

@@ -22,12 +22,13 @@ use std::fmt;
 /// | 13 | the distinct places (column, row) that are stored outnumber the pool's |
 ///
 /// The point rule: transformed and moved by the offset, both parts are finite and, times 256 and
-/// cut toward zero, at most 524,288 either way: 2048.0 passes and 2048.00390625 fails.
+/// cut toward zero, at most 524,288 either way: 2048.0034 passes and 2048.00390625 fails.
 ///
 /// 1 to 7 are judged in this order; then each record, from the first on, up to one that is refused;
-/// 13 comes last. [`draw_band`](crate::draw_band) and [`draw_in_bands`](crate::draw_in_bands) judge
-/// all of them, the latter 13 for each of its bands; [`draw`](crate::draw) lends what 2, 4 and 5 ask
-/// for; [`bounds`](crate::bounds) and [`placement`](crate::placement) judge 6 to 12.
+/// 13 comes last. Which of them a function gives is said by its *Errors*.
+///
+/// As text, by `{}` and by `{:?}`, a refusal is what a person can use, so a `main` that returns it
+/// tells enough:
 ///
 /// ```
 /// use mosszephyr::{draw, Label, Path, Refusal};
@@ -35,117 +36,172 @@ use std::fmt;
 /// let mut path = Path::new();
 /// path.move_to((0.0, 0.0)).line_to((f32::NAN, 0.0));
 /// let refusal = draw(&path, &Label::new(1, 1)).unwrap_err();
-/// assert_eq!((refusal.number(), refusal.record()), (Refusal::POINT, 1));
-/// println!("{refusal}");
+/// assert!(matches!(refusal, Refusal::Point(Some(_))));
+/// assert_eq!((refusal.record(), refusal.byte()), (Some(1), Some(12)));
+/// assert!(refusal.to_string().starts_with("refused with 12 at record 1 (byte 12): a point is NaN"));
 /// ```
-#[derive(Clone, Copy, Debug, PartialEq, Eq, Hash)]
-pub struct Refusal {
-    number: u32,
-    record: u32,
+#[derive(Clone, Copy, PartialEq, Eq, Hash)]
+#[non_exhaustive]
+pub enum Refusal {
+    /// 1: a width or height above 2,048.
+    Size,
+    /// 2: a band that does not lie within the label.
+    Band,
+    /// 3: a pitch below the width or above 65,536.
+    Pitch,
+    /// 4: a mask too short for the band.
+    Mask,
+    /// 5: fewer words than rows.
+    Workspace,
+    /// 6: a transform or an offset with a number that is not finite.
+    Float,
+    /// 7: a list longer than 65,536 bytes.
+    List,
+    /// 8: a cut record.
+    Cut(At),
+    /// 9: a kind that is not 1 to 5.
+    Kind(At),
+    /// 10: a length that is not the kind's.
+    Length(At),
+    /// 11: a first record that is not MoveTo.
+    Start(At),
+    /// 12: a point that fails the point rule. No record is at fault where it is the offset of an
+    /// empty path's placement.
+    Point(Option<At>),
+    /// 13: more places than the pool holds.
+    Room,
+    /// A number that this version of the crate has no words for, from a library newer than it.
+    Unknown(u32),
 }
 
-/// The words of refusals 1 to 13.
-const WORDS: [&str; 13] = [
-    "the width or the height is above 2,048 pixels",
-    "the band does not lie within the label",
-    "the pitch is below the width or above 65,536 bytes",
-    "the mask is too short for the band",
-    "the workspace has fewer words than the band has rows",
-    "a transform entry or an offset part is NaN or infinite",
-    "the path list is longer than 65,536 bytes",
-    "the end of the list cuts the record",
-    "the record's kind is not 1 to 5",
-    "the record's length is not its kind's",
-    "the first record is not a MoveTo",
-    "a point is NaN, infinite or more than 2,048 pixels from zero",
-    "the drawing needs more places than the workspace has room for",
-];
+/// Where in a list a record stands.
+#[derive(Clone, Copy, Debug, PartialEq, Eq, Hash)]
+pub struct At {
+    /// The record's index, from 0.
+    pub record: usize,
+    /// Where it starts in the list: how many bytes stand before it.
+    pub byte: usize,
+}
 
 impl Refusal {
-    /// 1: a width or height above 2,048.
-    pub const SIZE: u32 = 1;
-    /// 2: a band that does not lie within the label.
-    pub const BAND: u32 = 2;
-    /// 3: a pitch below the width or above 65,536.
-    pub const PITCH: u32 = 3;
-    /// 4: a mask too short for the band.
-    pub const MASK: u32 = 4;
-    /// 5: fewer words than rows.
-    pub const WORKSPACE: u32 = 5;
-    /// 6: a transform or an offset with a number that is not finite.
-    pub const FLOAT: u32 = 6;
-    /// 7: a list longer than 65,536 bytes.
-    pub const LIST: u32 = 7;
-    /// 8: a cut record.
-    pub const CUT: u32 = 8;
-    /// 9: a kind that is not 1 to 5.
-    pub const KIND: u32 = 9;
-    /// 10: a length that is not the kind's.
-    pub const LENGTH: u32 = 10;
-    /// 11: a first record that is not MoveTo.
-    pub const START: u32 = 11;
-    /// 12: a point that fails the point rule.
-    pub const POINT: u32 = 12;
-    /// 13: more places than the pool holds.
-    pub const ROOM: u32 = 13;
-
-    pub(crate) const fn new(number: u32, record: u32) -> Refusal {
-        Refusal { number, record }
+    /// The refusal with this number, by the library's judgement of a list.
+    pub(crate) fn new(number: u32, record: usize, list: &[u8]) -> Refusal {
+        let at = At::new(record, list);
+        match number {
+            1 => Refusal::Size,
+            2 => Refusal::Band,
+            3 => Refusal::Pitch,
+            4 => Refusal::Mask,
+            5 => Refusal::Workspace,
+            6 => Refusal::Float,
+            7 => Refusal::List,
+            8 => Refusal::Cut(at),
+            9 => Refusal::Kind(at),
+            10 => Refusal::Length(at),
+            11 => Refusal::Start(at),
+            12 => Refusal::Point((!list.is_empty()).then_some(at)),
+            13 => Refusal::Room,
+            unknown => Refusal::Unknown(unknown),
+        }
     }
 
-    /// The refusal's number.
+    /// The refusal's number, 1 to 13.
+    #[must_use]
     pub const fn number(&self) -> u32 {
-        self.number
+        match *self {
+            Refusal::Size => 1,
+            Refusal::Band => 2,
+            Refusal::Pitch => 3,
+            Refusal::Mask => 4,
+            Refusal::Workspace => 5,
+            Refusal::Float => 6,
+            Refusal::List => 7,
+            Refusal::Cut(_) => 8,
+            Refusal::Kind(_) => 9,
+            Refusal::Length(_) => 10,
+            Refusal::Start(_) => 11,
+            Refusal::Point(_) => 12,
+            Refusal::Room => 13,
+            Refusal::Unknown(number) => number,
+        }
     }
 
-    /// The index of the record at fault, from 0, for 8 to 12; 0 for the others, and where the
-    /// offset of an empty path's placement is refused with 12.
-    pub const fn record(&self) -> u32 {
-        self.record
+    /// The index of the record at fault, from 0, where one is.
+    #[must_use]
+    pub fn record(&self) -> Option<usize> {
+        self.at().map(|at| at.record)
+    }
+
+    /// Where the record at fault starts: how many bytes of the list stand before it.
+    #[must_use]
+    pub fn byte(&self) -> Option<usize> {
+        self.at().map(|at| at.byte)
     }
 
     /// What is wrong, in words.
-    pub fn words(&self) -> &'static str {
-        let at = (self.number as usize).wrapping_sub(1);
-        WORDS.get(at).copied().unwrap_or("an unknown refusal")
+    #[must_use]
+    pub const fn words(&self) -> &'static str {
+        match self {
+            Refusal::Size => "the width or the height is above 2,048 pixels",
+            Refusal::Band => "the band does not lie within the label",
+            Refusal::Pitch => "the pitch is below the width or above 65,536 bytes",
+            Refusal::Mask => "the mask is too short for the band",
+            Refusal::Workspace => "the workspace has fewer words than the band has rows",
+            Refusal::Float => "a transform entry or an offset part is NaN or infinite",
+            Refusal::List => "the path list is longer than 65,536 bytes",
+            Refusal::Cut(_) => "the end of the list cuts the record",
+            Refusal::Kind(_) => "the record's kind is not 1 to 5",
+            Refusal::Length(_) => "the record's length is not its kind's",
+            Refusal::Start(_) => "the first record is not a MoveTo",
+            Refusal::Point(_) => {
+                "a point is NaN, infinite, or 1/256 of a pixel or more beyond 2,048 from zero"
+            }
+            Refusal::Room => "the drawing needs more places than the workspace has room for",
+            Refusal::Unknown(_) => "an unknown refusal",
+        }
     }
 
-    const fn names_a_record(&self) -> bool {
-        self.number >= Refusal::CUT && self.number <= Refusal::POINT
+    const fn at(&self) -> Option<At> {
+        match *self {
+            Refusal::Cut(at) | Refusal::Kind(at) | Refusal::Length(at) | Refusal::Start(at) => {
+                Some(at)
+            }
+            Refusal::Point(at) => at,
+            _ => None,
+        }
+    }
+}
+
+impl At {
+    /// Where a record starts whose forerunners were judged good: behind them, each being two bytes
+    /// longer than it says. Other bytes have an answer too, within 65,537 bytes of the list's end.
+    fn new(record: usize, list: &[u8]) -> At {
+        let mut byte = 0;
+        for _ in 0..record {
+            let Some(&[low, high]) = list.get(byte..byte + 2) else {
+                break;
+            };
+            byte += 2 + usize::from(u16::from_le_bytes([low, high]));
+        }
+        At { record, byte }
     }
 }
 
 impl fmt::Display for Refusal {
     fn fmt(&self, f: &mut fmt::Formatter<'_>) -> fmt::Result {
-        write!(f, "refused with {}", self.number)?;
-        if self.names_a_record() {
-            write!(f, " at record {}", self.record)?;
+        write!(f, "refused with {}", self.number())?;
+        if let Some(At { record, byte }) = self.at() {
+            write!(f, " at record {record} (byte {byte})")?;
         }
         write!(f, ": {}", self.words())
     }
 }
 
-impl Error for Refusal {}
-
-#[cfg(test)]
-mod tests {
-    use super::*;
-
-    #[test]
-    fn records_are_told_where_one_is_at_fault() {
-        let cut = Refusal::new(Refusal::CUT, 5).to_string();
-        assert_eq!(
-            cut,
-            "refused with 8 at record 5: the end of the list cuts the record"
-        );
-        let room = Refusal::new(Refusal::ROOM, 0).to_string();
-        assert!(room.starts_with("refused with 13: the drawing needs"));
-    }
-
-    #[test]
-    fn any_number_has_words() {
-        for number in [0, 14, u32::MAX] {
-            assert_eq!(Refusal::new(number, 0).words(), "an unknown refusal");
-        }
+/// As [`Display`](fmt::Display) says it, for `unwrap` and for a `main` that returns a refusal.
+impl fmt::Debug for Refusal {
+    fn fmt(&self, f: &mut fmt::Formatter<'_>) -> fmt::Result {
+        fmt::Display::fmt(self, f)
     }
 }
+
+impl Error for Refusal {}
