@@ -149,7 +149,7 @@ impl Bands<'_> {
         let rows = self.next..self.label.height.min(self.next + self.step);
         self.next = rows.end;
         let Label { width, pitch, .. } = self.label;
-        let bytes = mask_bytes(width, rows.len(), pitch)?;
+        let bytes = mask_bytes(width, rows.len(), pitch).expect("the buffer holds these rows");
         let mask = &mut self.buffer[..bytes];
         let words = self.workspace.words(width, rows.len());
         let band = path_rows(&self.label, &rows);

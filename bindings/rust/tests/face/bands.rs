@@ -7,7 +7,7 @@ use mosszephyr::{
 };
 
 /// A band's mask and cells, drawn into memory that holds something old.
-fn band(path: &Path, label: &Label, first: usize, end: usize) -> (Vec<u8>, u32) {
+fn band(path: &Path, label: &Label, first: usize, end: usize) -> (Vec<u8>, usize) {
     let rows = end - first;
     let bytes = mask_bytes(label.width, rows, label.pitch).unwrap();
     let count = workspace_words(rows, (label.width + 1) * rows).unwrap();
@@ -46,10 +46,10 @@ fn bands_are_the_whole(label: &Label, rows: usize) {
     for first in (0..label.height).step_by(rows) {
         let end = label.height.min(first + rows);
         let (mask, count) = band(&path, label, first, end);
-        assert_eq!(mask, cut(&whole.mask, label, first, end), "{first}..{end}");
+        assert_eq!(mask, cut(whole.mask(), label, first, end), "{first}..{end}");
         cells += count;
     }
-    assert_eq!(cells, whole.cells);
+    assert_eq!(cells, whole.cells());
 }
 
 #[test]
@@ -71,7 +71,8 @@ fn bands_of_every_height_are_the_whole() {
 /// The figure paints something, leaves something out, and has soft edges.
 #[test]
 fn figure_shows_ink_paper_and_edges() {
-    let mask = draw(&round_figure(), &Label::new(40, 30)).unwrap().mask;
+    let picture = draw(round_figure(), &Label::new(40, 30)).unwrap();
+    let mask = picture.mask();
     assert!(mask.contains(&0) && mask.contains(&255));
     assert!(mask.iter().any(|&byte| byte != 0 && byte != 255));
 }
@@ -80,13 +81,13 @@ fn figure_shows_ink_paper_and_edges() {
 #[test]
 fn bands_need_little_room() {
     let label = Label::new(40, 30);
-    let whole = draw(&round_figure(), &label).unwrap();
+    let whole = draw(round_figure(), &label).unwrap();
     let mut words = vec![0; workspace_words(1, 41).unwrap()];
     let mut mask = vec![0; label.width * label.height];
     for (row, bytes) in mask.chunks_mut(label.width).enumerate() {
-        draw_band(&round_figure(), &label, row..row + 1, bytes, &mut words).unwrap();
+        draw_band(round_figure(), &label, row..row + 1, bytes, &mut words).unwrap();
     }
-    assert_eq!(mask, whole.mask);
+    assert_eq!(mask, whole.mask());
 }
 
 /// Drawn at once or in bands of any height, every row is the same, also of a part of the label.
@@ -125,13 +126,16 @@ fn in_bands_as_at_once(label: &Label, first: usize, end: usize, step: usize) {
 #[test]
 fn rows_share_a_small_room() {
     let label = Label::new(40, 30);
-    let whole = draw(&round_figure(), &label).unwrap();
+    let whole = draw(round_figure(), &label).unwrap();
     let (mut mask, mut words) = (vec![7; 1200], vec![9; workspace_words(1, 41).unwrap()]);
-    let refusal = draw_band(&round_figure(), &label, 0..30, &mut mask, &mut words).unwrap_err();
-    assert_eq!((refusal.number(), &mask), (Refusal::ROOM, &vec![7; 1200]));
-    let drawn = draw_in_bands(&round_figure(), &label, 0..30, 1, &mut mask, &mut words).unwrap();
-    assert_eq!((drawn.records, drawn.cells), (whole.records, whole.cells));
-    assert_eq!(mask, whole.mask);
+    let refused = draw_band(round_figure(), &label, 0..30, &mut mask, &mut words);
+    assert_eq!((refused, &mask), (Err(Refusal::Room), &vec![7; 1200]));
+    let drawn = draw_in_bands(round_figure(), &label, 0..30, 1, &mut mask, &mut words).unwrap();
+    assert_eq!(
+        (drawn.records, drawn.cells),
+        (whole.records(), whole.cells())
+    );
+    assert_eq!(mask, whole.mask());
 }
 
 /// One place in each row, two in the last: a pool of one place refuses that band, and the mask
@@ -141,9 +145,8 @@ fn a_later_band_without_room_leaves_the_mask() {
     let mut path = rectangle(0.0, 0.0, 4.0, 3.0);
     path.move_to((2.0, 2.0));
     let (mut mask, mut words) = ([7; 12], [9; 7]);
-    let refusal = draw_in_bands(&path, &Label::new(4, 3), 0..3, 1, &mut mask, &mut words);
-    let refusal = refusal.unwrap_err();
-    assert_eq!((refusal.number(), refusal.record()), (Refusal::ROOM, 0));
+    let refused = draw_in_bands(&path, &Label::new(4, 3), 0..3, 1, &mut mask, &mut words);
+    assert_eq!(refused, Err(Refusal::Room));
     assert_eq!((mask, words), ([7; 12], [0; 7]));
 }
 

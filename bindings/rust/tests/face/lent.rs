@@ -17,12 +17,15 @@ fn dirty_words(count: usize) -> [Vec<u32>; 4] {
 #[test]
 fn dirty_workspace_changes_nothing() {
     let label = Label::new(40, 30);
-    let clean = draw(&round_figure(), &label).unwrap();
+    let clean = draw(round_figure(), &label).unwrap();
     for mut words in dirty_words(30 + 4 * 41 * 30 + 3) {
         let mut mask = vec![0xEE; 40 * 30];
-        let drawn = draw_band(&round_figure(), &label, 0..30, &mut mask, &mut words).unwrap();
-        assert_eq!(mask, clean.mask);
-        assert_eq!((drawn.records, drawn.cells), (clean.records, clean.cells));
+        let drawn = draw_band(round_figure(), &label, 0..30, &mut mask, &mut words).unwrap();
+        assert_eq!(mask, clean.mask());
+        assert_eq!(
+            (drawn.records, drawn.cells),
+            (clean.records(), clean.cells())
+        );
         assert!(words.iter().all(|&word| word == 0));
     }
 }

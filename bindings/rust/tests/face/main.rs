@@ -2,9 +2,15 @@
 //! (docs/RULES.md), bands, and what a call leaves in the memory that it is lent.
 
 mod bands;
+mod header;
 mod labels;
 mod lent;
+mod pictures;
+mod printer;
+mod reading;
 mod refusals;
+mod transforms;
+mod worked;
 
 use mosszephyr::{draw, Label, Path, Picture};
 
@@ -46,5 +52,17 @@ fn round_figure() -> Path {
         .quad_to((28.5, 15.25), (20.0, 22.0))
         .quad_to((11.5, 15.25), (20.0, 8.0))
         .close();
+    path
+}
+
+/// Upright lines, one in each column and one before them: every row has width + 1 places.
+fn comb(width: u16, rows: u16) -> Path {
+    let ends = [-1.0, f32::from(rows) + 1.0];
+    let mut path = Path::new();
+    path.move_to((-0.5, ends[0]));
+    for column in 0..=width {
+        let (x, side) = (f32::from(column) - 0.5, usize::from(column % 2));
+        path.line_to((x, ends[side])).line_to((x, ends[1 - side]));
+    }
     path
 }

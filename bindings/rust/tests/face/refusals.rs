@@ -7,16 +7,22 @@ use mosszephyr::{
     bounds, draw, draw_band, placement, Label, Origin, Path, Point, Refusal, Transform,
 };
 
-/// A refusal as number and record.
-fn told(refusal: Refusal) -> (u32, u32) {
-    (refusal.number(), refusal.record())
+/// A refusal as number, record and byte.
+fn told(refusal: Refusal) -> (u32, Option<usize>, Option<usize>) {
+    (refusal.number(), refusal.record(), refusal.byte())
+}
+
+/// Where a record is at fault.
+fn at(number: u32, record: usize, byte: usize) -> (u32, Option<usize>, Option<usize>) {
+    (number, Some(record), Some(byte))
 }
 
 /// K1's path in a band, with so many bytes and words; both must stay as they were.
 fn band_refusal(label: &Label, band: Range<usize>, bytes: usize, count: usize) -> Refusal {
     let (mut mask, mut words) = (vec![7; bytes], vec![9; count]);
     let refusal = draw_band(&k1(), label, band, &mut mask, &mut words).unwrap_err();
-    assert_eq!((refusal.record(), mask), (0, vec![7; bytes]));
+    assert_eq!((refusal.record(), refusal.byte()), (None, None));
+    assert_eq!(mask, vec![7; bytes]);
     assert_eq!(words, vec![9; count]);
     refusal
 }
@@ -41,7 +47,7 @@ fn size_is_1() {
     for (width, height) in [(2049, 3), (4, 2049), (usize::MAX, usize::MAX)] {
         let label = Label::new(width, height);
         let refusal = band_refusal(&label, 0..3, 12, 19);
-        assert_eq!(refusal.number(), Refusal::SIZE);
+        assert_eq!((refusal, refusal.number()), (Refusal::Size, 1));
         let words = "the width or the height is above 2,048 pixels";
         assert_eq!(refusal.words(), words);
         assert_eq!(draw(&k1(), &label), Err(refusal));
@@ -53,7 +59,7 @@ fn band_is_2() {
     let label = Label::new(4, 3);
     for (start, end) in [(2, 1), (0, 4), (usize::MAX, 0), (0, usize::MAX)] {
         let refusal = band_refusal(&label, Range { start, end }, 12, 19);
-        assert_eq!(refusal.number(), Refusal::BAND);
+        assert_eq!((refusal, refusal.number()), (Refusal::Band, 2));
         assert_eq!(refusal.words(), "the band does not lie within the label");
     }
 }
@@ -66,7 +72,7 @@ fn pitch_is_3() {
             ..Label::new(4, 3)
         };
         let refusal = band_refusal(&label, 0..3, 12, 19);
-        assert_eq!(refusal.number(), Refusal::PITCH);
+        assert_eq!((refusal, refusal.number()), (Refusal::Pitch, 3));
         let words = "the pitch is below the width or above 65,536 bytes";
         assert_eq!(refusal.words(), words);
         assert_eq!(draw(&k1(), &label), Err(refusal));
@@ -77,7 +83,7 @@ fn pitch_is_3() {
 fn mask_is_4() {
     for bytes in [0, 11] {
         let refusal = band_refusal(&Label::new(4, 3), 0..3, bytes, 19);
-        assert_eq!(refusal.number(), Refusal::MASK);
+        assert_eq!((refusal, refusal.number()), (Refusal::Mask, 4));
         assert_eq!(refusal.words(), "the mask is too short for the band");
     }
 }
@@ -86,7 +92,7 @@ fn mask_is_4() {
 fn workspace_is_5() {
     for count in [0, 2] {
         let refusal = band_refusal(&Label::new(4, 3), 0..3, 12, count);
-        assert_eq!(refusal.number(), Refusal::WORKSPACE);
+        assert_eq!((refusal, refusal.number()), (Refusal::Workspace, 5));
         let words = "the workspace has fewer words than the band has rows";
         assert_eq!(refusal.words(), words);
     }
@@ -100,7 +106,7 @@ fn float_is_6() {
             ..Label::new(4, 3)
         };
         let refusal = band_refusal(&label, 0..3, 12, 19);
-        assert_eq!(refusal.number(), Refusal::FLOAT);
+        assert_eq!((refusal, refusal.number()), (Refusal::Float, 6));
         let words = "a transform entry or an offset part is NaN or infinite";
         assert_eq!(refusal.words(), words);
         assert_eq!(draw(&k1(), &label), Err(refusal));
@@ -117,14 +123,14 @@ fn every_transform_entry_is_judged() {
         let [xx, xy, yx, yy, x, y] = entries;
         let transform = Transform::new(xx, xy, yx, yy, x, y);
         let refusal = bounds(&k1(), transform).unwrap_err();
-        assert_eq!(refusal.number(), Refusal::FLOAT, "entry {at}");
+        assert_eq!(refusal, Refusal::Float, "entry {at}");
     }
 }
 
 #[test]
 fn list_is_7() {
     let refusal = list_refusal(&Path::from_bytes(vec![0; 65_537]));
-    assert_eq!(told(refusal), (Refusal::LIST, 0));
+    assert_eq!((refusal, told(refusal)), (Refusal::List, (7, None, None)));
     let words = "the path list is longer than 65,536 bytes";
     assert_eq!(refusal.words(), words);
 }
@@ -133,20 +139,22 @@ fn list_is_7() {
 fn cut_is_8() {
     for stray in 1..=3 {
         let refusal = list_refusal(&Path::from_bytes(vec![0; stray]));
-        assert_eq!(told(refusal), (Refusal::CUT, 0));
+        assert_eq!(told(refusal), at(8, 0, 0));
         let refusal = list_refusal(&k1_and(&vec![0; stray]));
-        assert_eq!(told(refusal), (Refusal::CUT, 5));
+        assert_eq!(told(refusal), at(8, 5, 52));
+        assert!(matches!(refusal, Refusal::Cut(_)));
         assert_eq!(refusal.words(), "the end of the list cuts the record");
     }
     let body = list_refusal(&Path::from_bytes([10, 0, 2, 0]));
-    assert_eq!(told(body), (Refusal::CUT, 0), "a cut body beats 11");
+    assert_eq!(told(body), at(8, 0, 0), "a cut body beats 11");
 }
 
 #[test]
 fn kind_is_9() {
     for kind in [[0, 0], [6, 0], [1, 1]] {
         let refusal = list_refusal(&k1_and(&[10, 0, kind[0], kind[1]]));
-        assert_eq!(told(refusal), (Refusal::KIND, 5), "9 beats a cut body");
+        assert_eq!(told(refusal), at(9, 5, 52), "9 beats a cut body");
+        assert!(matches!(refusal, Refusal::Kind(_)));
         assert_eq!(refusal.words(), "the record's kind is not 1 to 5");
     }
 }
@@ -155,7 +163,8 @@ fn kind_is_9() {
 fn length_is_10() {
     for length in [[0, 0], [10, 0], [2, 1]] {
         let refusal = list_refusal(&k1_and(&[length[0], length[1], 5, 0]));
-        assert_eq!(told(refusal), (Refusal::LENGTH, 5));
+        assert_eq!(told(refusal), at(10, 5, 52));
+        assert!(matches!(refusal, Refusal::Length(_)));
         assert_eq!(refusal.words(), "the record's length is not its kind's");
     }
 }
@@ -167,7 +176,8 @@ fn start_is_11() {
     line.line_to((f32::NAN, 0.0));
     for path in [close, line] {
         let refusal = list_refusal(&path);
-        assert_eq!(told(refusal), (Refusal::START, 0), "11 beats 12");
+        assert_eq!(told(refusal), at(11, 0, 0), "11 beats 12");
+        assert!(matches!(refusal, Refusal::Start(_)));
         assert_eq!(refusal.words(), "the first record is not a MoveTo");
     }
 }
@@ -179,12 +189,14 @@ fn point_is_12() {
         let mut path = k1();
         path.curve_to((0.0, 0.0), (0.0, far), (0.0, 0.0));
         let refusal = list_refusal(&path);
-        assert_eq!(told(refusal), (Refusal::POINT, 5));
-        let words = "a point is NaN, infinite or more than 2,048 pixels from zero";
+        assert_eq!(told(refusal), at(12, 5, 52));
+        assert!(matches!(refusal, Refusal::Point(Some(_))));
+        let words = "a point is NaN, infinite, or 1/256 of a pixel or more beyond 2,048 from zero";
         assert_eq!(refusal.words(), words);
     }
     let mut path = Path::new();
-    path.move_to((2048.0, -2048.0));
+    path.move_to((2048.0, -2048.0))
+        .line_to((-2048.0034, 2048.0034));
     assert!(bounds(&path, Transform::identity()).is_ok());
 }
 
@@ -198,7 +210,8 @@ fn offset_of_an_empty_path_is_12_in_a_placement() {
         offset,
         Origin::BottomLeft,
     );
-    assert_eq!(told(placed.unwrap_err()), (Refusal::POINT, 0));
+    assert_eq!(placed, Err(Refusal::Point(None)));
+    assert_eq!(told(placed.unwrap_err()), (12, None, None));
     let label = Label {
         offset,
         ..Label::new(1, 1)
@@ -213,28 +226,13 @@ fn room_is_13() {
     for count in 3..11 {
         let (mut mask, mut words) = ([7; 12], vec![9; count]);
         let refusal = draw_band(&k1(), &label, 0..3, &mut mask, &mut words).unwrap_err();
-        assert_eq!(told(refusal), (Refusal::ROOM, 0));
+        assert_eq!((refusal, told(refusal)), (Refusal::Room, (13, None, None)));
         let said = "the drawing needs more places than the workspace has room for";
         assert_eq!(refusal.words(), said);
         assert_eq!((mask, words), ([7; 12], vec![0; count]));
     }
     let (mut mask, mut words) = ([7; 12], [9; 11]);
     assert!(draw_band(&k1(), &label, 0..3, &mut mask, &mut words).is_ok());
-}
-
-/// More than 16,384 places: one in each pixel of 129 rows of 128.
-#[test]
-fn room_of_a_whole_label_is_limited() {
-    let mut path = Path::new();
-    path.move_to((0.0, 0.0));
-    for row in 0..129u8 {
-        let y = f32::from(row);
-        path.move_to((0.0, y))
-            .line_to((128.0, y + 1.0))
-            .line_to((0.0, y + 1.0));
-    }
-    let refusal = draw(&path, &Label::new(128, 129)).unwrap_err();
-    assert_eq!(refusal.number(), Refusal::ROOM);
 }
 
 /// A list cut anywhere: whole records are a list, anything else is 8 at the record that is cut.
@@ -247,7 +245,8 @@ fn every_cut_is_told() {
         if ends.contains(&cut) {
             assert!(draw(&path, &Label::new(4, 3)).is_ok());
         } else {
-            assert_eq!(told(list_refusal(&path)), (Refusal::CUT, cut as u32 / 12));
+            let record = cut / 12;
+            assert_eq!(told(list_refusal(&path)), at(8, record, 12 * record));
         }
     }
 }
@@ -293,19 +292,20 @@ fn refusals_come_in_their_order() {
         width: 2049,
         ..narrow
     };
-    assert_eq!(number(&wide, 4, 0, 0), Refusal::SIZE);
-    assert_eq!(number(&narrow, 4, 0, 0), Refusal::BAND);
-    assert_eq!(number(&narrow, 3, 0, 0), Refusal::PITCH);
-    assert_eq!(number(&endless, 3, 0, 0), Refusal::MASK);
-    assert_eq!(number(&endless, 3, 12, 0), Refusal::WORKSPACE);
-    assert_eq!(number(&endless, 3, 12, 3), Refusal::FLOAT);
-    assert_eq!(number(&Label::new(4, 3), 3, 12, 3), Refusal::LIST);
+    assert_eq!(number(&wide, 4, 0, 0), 1);
+    assert_eq!(number(&narrow, 4, 0, 0), 2);
+    assert_eq!(number(&narrow, 3, 0, 0), 3);
+    assert_eq!(number(&endless, 3, 0, 0), 4);
+    assert_eq!(number(&endless, 3, 12, 0), 5);
+    assert_eq!(number(&endless, 3, 12, 3), 6);
+    assert_eq!(number(&Label::new(4, 3), 3, 12, 3), 7);
 }
 
 /// A refusal is an error as others are, and says its number, record and words.
 #[test]
 fn refusal_is_an_error() {
     let error: Box<dyn std::error::Error> = Box::new(list_refusal(&k1_and(&[2])));
-    let said = "refused with 8 at record 5: the end of the list cuts the record";
+    let said = "refused with 8 at record 5 (byte 52): the end of the list cuts the record";
     assert_eq!(error.to_string(), said);
+    assert_eq!(format!("{error:?}"), said);
 }
