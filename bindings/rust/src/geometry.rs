@@ -253,33 +253,3 @@ pub fn placement(
 ) -> Result<Placement, Refusal> {
     face::placement(list.as_ref(), transform, offset, origin)
 }
-
-#[cfg(test)]
-mod tests {
-    use super::*;
-
-    fn bits(t: Transform) -> [u32; 6] {
-        [t.xx, t.xy, t.yx, t.yy, t.x, t.y].map(f32::to_bits)
-    }
-
-    #[test]
-    fn scale_is_a_combination() {
-        let mirrored = Transform::identity().then_scale(-1.0, 1.0);
-        let expected = Transform::new(-1.0, 0.0, 0.0, 1.0, 0.0, 0.0);
-        assert_eq!(bits(mirrored), bits(expected), "0 * -1 + 1 * 0 is +0");
-        let endless = Transform::identity().then_scale(f32::INFINITY, 1.0);
-        assert!(endless.xx.is_infinite() && endless.xy.is_nan() && endless.x.is_nan());
-    }
-
-    #[test]
-    fn scale_multiplies_in_the_rules_order() {
-        let t = Transform::new(1.0, 2.0, 3.0, 4.0, 5.0, 6.0).then_scale(10.0, 100.0);
-        assert_eq!(t, Transform::new(10.0, 20.0, 300.0, 400.0, 50.0, 600.0));
-    }
-
-    #[test]
-    fn translate_adds() {
-        let t = Transform::new(1.0, 2.0, 3.0, 4.0, 5.0, 6.0).then_translate(0.5, -0.25);
-        assert_eq!(t, Transform::new(1.0, 2.0, 3.0, 4.0, 5.5, 5.75));
-    }
-}

@@ -205,3 +205,61 @@ impl fmt::Debug for Refusal {
 }
 
 impl Error for Refusal {}
+
+#[cfg(test)]
+mod tests {
+    use super::*;
+
+    /// Three records of 12, 4 and 20 bytes.
+    fn list() -> Vec<u8> {
+        let mut list = vec![0; 36];
+        (list[0], list[12], list[16]) = (10, 2, 18);
+        list
+    }
+
+    #[test]
+    fn numbers_are_kept_whatever_they_are() {
+        for number in (1..20).chain([u32::MAX]) {
+            assert_eq!(Refusal::new(number, 0, &list()).number(), number);
+        }
+        let unknown = Refusal::new(14, 2, &list());
+        assert_eq!(unknown, Refusal::Unknown(14));
+        assert_eq!(unknown.to_string(), "refused with 14: an unknown refusal");
+    }
+
+    #[test]
+    fn bytes_are_those_before_the_record() {
+        for (record, byte) in [(0, 0), (1, 12), (2, 16), (3, 36)] {
+            for number in 8..=12 {
+                let refusal = Refusal::new(number, record, &list());
+                assert_eq!(
+                    (refusal.record(), refusal.byte()),
+                    (Some(record), Some(byte))
+                );
+            }
+        }
+        let last = Refusal::new(12, 2, &list()).to_string();
+        assert!(last.starts_with("refused with 12 at record 2 (byte 16): a point"));
+    }
+
+    #[test]
+    fn only_8_to_12_have_a_record() {
+        for number in [1, 2, 3, 4, 5, 6, 7, 13, 14] {
+            let refusal = Refusal::new(number, 1, &list());
+            assert_eq!((refusal.record(), refusal.byte()), (None, None), "{number}");
+        }
+        assert_eq!(Refusal::new(12, 0, &[]), Refusal::Point(None));
+    }
+
+    /// A record that no list can have, and bytes that are no list.
+    #[test]
+    fn any_record_of_any_bytes_has_an_answer() {
+        for list in [&list()[..], &[255; 9], &[0; 3], &[7], &[]] {
+            for record in [0, 1, 2, 3, 100, usize::MAX] {
+                let at = At::new(record, list);
+                assert_eq!(at.record, record);
+                assert!(at.byte <= list.len() + 65_537);
+            }
+        }
+    }
+}

@@ -118,7 +118,7 @@ fn transform_and_offset_are_applied() {
         offset: Point::new(-1.0, -3.0),
         ..Label::new(4, 3)
     };
-    assert_eq!(draw(&path, &label), draw(&k1(), &Label::new(4, 3)));
+    assert_eq!(draw(&path, &label), draw(k1(), &Label::new(4, 3)));
 }
 
 #[test]
@@ -131,7 +131,7 @@ fn sizes_at_their_limits_pass() {
         pitch: 65_536,
         ..Label::new(4, 3)
     };
-    let picture = draw(&k1(), &spaced).unwrap();
+    let picture = draw(k1(), &spaced).unwrap();
     assert_eq!(picture.mask().len(), 2 * 65_536 + 4);
     assert_eq!(picture.mask()[65_536..65_540], [0, 255, 255, 0]);
 }
@@ -143,7 +143,7 @@ fn nothing_to_draw_needs_nothing() {
         cells: 0,
     };
     let label = Label::new(4, 3);
-    let empty_band = draw_band(&k1(), &label, 2..2, &mut [], &mut []);
+    let empty_band = draw_band(k1(), &label, 2..2, &mut [], &mut []);
     assert_eq!(empty_band, Ok(none));
     for (width, height) in [(0, 0), (0, 3), (4, 0)] {
         assert_eq!(drawn(&Path::new(), width, height).mask(), []);

@@ -35,7 +35,7 @@ fn dirty_workspace_changes_nothing() {
 fn words_behind_the_pool_are_wiped() {
     let mut words = vec![9; 3 + 4 * (MOST_CELLS + 5) + 2];
     let mut mask = [0; 12];
-    draw_band(&k1(), &Label::new(4, 3), 0..3, &mut mask, &mut words).unwrap();
+    draw_band(k1(), &Label::new(4, 3), 0..3, &mut mask, &mut words).unwrap();
     assert!(words.iter().all(|&word| word == 0));
 }
 
@@ -47,7 +47,7 @@ fn only_width_bytes_of_each_row_are_written() {
         ..Label::new(4, 3)
     };
     let mut mask = [7; 20];
-    draw_band(&k1(), &label, 0..3, &mut mask, &mut [0; 19]).unwrap();
+    draw_band(k1(), &label, 0..3, &mut mask, &mut [0; 19]).unwrap();
     let rows: Vec<&[u8]> = mask.chunks(6).collect();
     assert_eq!(rows[0], [0, 0, 0, 0, 7, 7]);
     assert_eq!(rows[1], [0, 255, 255, 0, 7, 7]);
@@ -63,7 +63,7 @@ fn rows_stand_from_the_bottom_when_up() {
         ..Label::new(4, 3)
     };
     let mut mask = [7; 8];
-    draw_band(&k1(), &label, 1..3, &mut mask, &mut [0; 10]).unwrap();
+    draw_band(k1(), &label, 1..3, &mut mask, &mut [0; 10]).unwrap();
     assert_eq!(mask, [0, 0, 0, 0, 0, 255, 255, 0]);
 }
 

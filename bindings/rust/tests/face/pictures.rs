@@ -51,7 +51,7 @@ fn any_bytes_are_drawn() {
     let picture = draw(&path, &label);
     assert!(picture.is_ok());
     assert_eq!(draw(path.as_bytes(), &label), picture);
-    assert_eq!(draw(path.as_bytes().to_vec(), &label), picture);
+    assert_eq!(draw(path.as_bytes(), &label), picture);
     assert_eq!(draw(path, &label), picture);
 }
 
@@ -109,14 +109,10 @@ fn row_by_row(list: &Path, label: &Label) -> (Vec<u8>, usize) {
     (mask, cells)
 }
 
-/// As many places as there can be: with 8 rows of 2,049 it is 13, with 7 it is not.
+/// As many places as there can be: with 128 rows of 129 it is 13, with 127 it is not.
 #[test]
 fn rows_full_of_places_are_drawn() {
-    for (width, height, origin) in [
-        (2048, 15, Origin::TopLeft),
-        (2048, 8, Origin::BottomLeft),
-        (127, 129, Origin::BottomLeft),
-    ] {
+    for (width, height, origin) in [(128, 128, Origin::TopLeft), (256, 130, Origin::BottomLeft)] {
         let path = comb(width, height);
         let label = Label {
             origin,

@@ -20,7 +20,7 @@ fn at(number: u32, record: usize, byte: usize) -> (u32, Option<usize>, Option<us
 /// K1's path in a band, with so many bytes and words; both must stay as they were.
 fn band_refusal(label: &Label, band: Range<usize>, bytes: usize, count: usize) -> Refusal {
     let (mut mask, mut words) = (vec![7; bytes], vec![9; count]);
-    let refusal = draw_band(&k1(), label, band, &mut mask, &mut words).unwrap_err();
+    let refusal = draw_band(k1(), label, band, &mut mask, &mut words).unwrap_err();
     assert_eq!((refusal.record(), refusal.byte()), (None, None));
     assert_eq!(mask, vec![7; bytes]);
     assert_eq!(words, vec![9; count]);
@@ -50,7 +50,7 @@ fn size_is_1() {
         assert_eq!((refusal, refusal.number()), (Refusal::Size, 1));
         let words = "the width or the height is above 2,048 pixels";
         assert_eq!(refusal.words(), words);
-        assert_eq!(draw(&k1(), &label), Err(refusal));
+        assert_eq!(draw(k1(), &label), Err(refusal));
     }
 }
 
@@ -75,7 +75,7 @@ fn pitch_is_3() {
         assert_eq!((refusal, refusal.number()), (Refusal::Pitch, 3));
         let words = "the pitch is below the width or above 65,536 bytes";
         assert_eq!(refusal.words(), words);
-        assert_eq!(draw(&k1(), &label), Err(refusal));
+        assert_eq!(draw(k1(), &label), Err(refusal));
     }
 }
 
@@ -109,8 +109,8 @@ fn float_is_6() {
         assert_eq!((refusal, refusal.number()), (Refusal::Float, 6));
         let words = "a transform entry or an offset part is NaN or infinite";
         assert_eq!(refusal.words(), words);
-        assert_eq!(draw(&k1(), &label), Err(refusal));
-        let placed = placement(&k1(), label.transform, label.offset, Origin::TopLeft);
+        assert_eq!(draw(k1(), &label), Err(refusal));
+        let placed = placement(k1(), label.transform, label.offset, Origin::TopLeft);
         assert_eq!(placed, Err(refusal));
     }
 }
@@ -122,7 +122,7 @@ fn every_transform_entry_is_judged() {
         entries[at] = f32::NAN;
         let [xx, xy, yx, yy, x, y] = entries;
         let transform = Transform::new(xx, xy, yx, yy, x, y);
-        let refusal = bounds(&k1(), transform).unwrap_err();
+        let refusal = bounds(k1(), transform).unwrap_err();
         assert_eq!(refusal, Refusal::Float, "entry {at}");
     }
 }
@@ -205,7 +205,7 @@ fn point_is_12() {
 fn offset_of_an_empty_path_is_12_in_a_placement() {
     let offset = Point::new(2048.5, 0.0);
     let placed = placement(
-        &Path::new(),
+        Path::new(),
         Transform::identity(),
         offset,
         Origin::BottomLeft,
@@ -216,7 +216,7 @@ fn offset_of_an_empty_path_is_12_in_a_placement() {
         offset,
         ..Label::new(1, 1)
     };
-    assert!(draw(&Path::new(), &label).is_ok());
+    assert!(draw(Path::new(), &label).is_ok());
 }
 
 /// K1 stores two places, so a pool of one is too small.
@@ -225,14 +225,14 @@ fn room_is_13() {
     let label = Label::new(4, 3);
     for count in 3..11 {
         let (mut mask, mut words) = ([7; 12], vec![9; count]);
-        let refusal = draw_band(&k1(), &label, 0..3, &mut mask, &mut words).unwrap_err();
+        let refusal = draw_band(k1(), &label, 0..3, &mut mask, &mut words).unwrap_err();
         assert_eq!((refusal, told(refusal)), (Refusal::Room, (13, None, None)));
         let said = "the drawing needs more places than the workspace has room for";
         assert_eq!(refusal.words(), said);
         assert_eq!((mask, words), ([7; 12], vec![0; count]));
     }
     let (mut mask, mut words) = ([7; 12], [9; 11]);
-    assert!(draw_band(&k1(), &label, 0..3, &mut mask, &mut words).is_ok());
+    assert!(draw_band(k1(), &label, 0..3, &mut mask, &mut words).is_ok());
 }
 
 /// A list cut anywhere: whole records are a list, anything else is 8 at the record that is cut.
