@@ -51,6 +51,7 @@ fn archive_folder() -> Result<PathBuf, String> {
     }
     let here = env::var_os("CARGO_MANIFEST_DIR").expect("cargo tells the package's folder");
     let root = Path::new(&here).join("../..");
+    let root = root.canonicalize().unwrap_or(root);
     let built = root.join("target/staticlib");
     if holds_archive(&built) {
         warn_if_old(&built.join(ARCHIVE), &root.join("crates"));
