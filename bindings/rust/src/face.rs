@@ -2,10 +2,10 @@
 //!
 //! | what the C face asks of its caller | why it holds here |
 //! |---|---|
-//! | pointers valid for their lengths, not null, words aligned to 4 | each pair is one slice's |
+//! | pointers valid for their lengths, words aligned to 4 | each pair is one slice's |
 //! | list, mask and words do not overlap, nothing else writes them | a `&` and two `&mut` |
 //! | lengths within PTRDIFF_MAX bytes | no slice is longer than `isize::MAX` bytes |
-//! | a bool holds 0 or 1 | as every `bool` |
+//! | a bool holds 0 or 1 | as every `bool`; those of `mz_label`'s answer are the library's own |
 //! | the structs are those of mosszephyr.h | `repr(C)`, the same fields in the same order; sizes and offsets are asserted below |
 //!
 //! Every number may be anything: the library judges them.

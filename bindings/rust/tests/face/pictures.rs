@@ -142,6 +142,7 @@ fn a_workspace_serves_many_labels() {
         (&Path::new(), 2048, 2048),
         (&comb, 300, 2048),
         (&k1(), 2049, 1),
+        (&k1(), 1, 2049),
         (&Path::from_bytes([1]), 4, 3),
         (&k1(), 2048, 3),
         (&k1(), 0, 3),
@@ -172,10 +173,11 @@ fn a_workspace_judges_the_mask() {
         ..Label::new(4, 3)
     };
     let mut workspace = Workspace::new();
-    assert_eq!(
-        workspace.draw(k1(), &label, &mut [7; 15]),
-        Err(Refusal::Mask)
-    );
+    let endless = Label::new(usize::MAX, usize::MAX);
+    let refused = workspace.draw(k1(), &endless, &mut []);
+    assert_eq!(refused, Err(Refusal::Size));
+    let refused = workspace.draw(k1(), &label, &mut [7; 15]);
+    assert_eq!(refused, Err(Refusal::Mask));
     let mut mask = [7; 16];
     assert!(workspace.draw(k1(), &label, &mut mask).is_ok());
     assert_eq!(mask, [0, 0, 0, 0, 7, 7, 0, 255, 255, 0, 7, 7, 0, 0, 0, 0]);

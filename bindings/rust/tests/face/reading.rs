@@ -131,6 +131,18 @@ fn damaged_lists_are_refused_as_the_library_refuses_them() {
     }
 }
 
+/// Every part of a list, from any byte to any other: among them records of each kind that begin a
+/// list and are cut.
+#[test]
+fn parts_of_a_list_are_refused_as_the_library_refuses_them() {
+    let list = every().into_bytes();
+    for first in 0..list.len() {
+        for end in first..=list.len() {
+            read_as_judged(&list[first..end]);
+        }
+    }
+}
+
 /// Records of any kind with any length, some of them right, in front of bytes of no meaning.
 #[test]
 fn bytes_of_no_meaning_are_refused_as_the_library_refuses_them() {
