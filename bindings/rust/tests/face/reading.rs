@@ -170,7 +170,7 @@ fn bytes_of_no_meaning_are_refused_as_the_library_refuses_them() {
 #[test]
 fn reading_has_no_limit() {
     let mut path = k1();
-    path.extend([Close; 20_000]);
+    path.extend(std::iter::repeat_n(Close, 20_000));
     assert!(path.as_bytes().len() > mosszephyr::MOST_LIST);
     assert_eq!(path.commands().filter(Result::is_ok).count(), 20_005);
 }
