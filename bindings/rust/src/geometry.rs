@@ -63,7 +63,7 @@ pub struct Transform {
     pub y: f32,
 }
 
-/// Every method calls the library, whose rules for transforms are zeno's.
+/// All but `new` is done by the library, whose rules for transforms are zeno's.
 ///
 /// [`then`](Transform::then) and those that are made from it are what their names say where no
 /// transform has an xy or a yx, as scales and moves have none. Where one has, as in a turned label,
