@@ -64,16 +64,16 @@ fn run(request: &Request) -> Result<(), Failure> {
             let screen = Screen::of_environment();
             let seen = draw(&list, &frame.seen_on(&screen)).map_err(refused)?;
             let (width, height) = (seen.width(), seen.height());
-            to_stdout(screen.lines(&tones(&seen, request.ink), width).as_bytes())?;
+            to_stdout(screen.lines(seen.mask(), width, request.ink).as_bytes())?;
             eprintln!("{drawn}, shown as {width} x {height}");
         }
         Out::Stdout => {
-            to_stdout(&pgm(&tones(&picture, request.ink), frame.width))?;
+            to_stdout(&pgm(picture.mask(), frame.width, request.ink))?;
             eprintln!("{drawn}, written to standard output");
         }
         Out::File(out) => {
             let out_name = shown(out);
-            fs::write(out, pgm(&tones(&picture, request.ink), frame.width))
+            fs::write(out, pgm(picture.mask(), frame.width, request.ink))
                 .map_err(|error| Failure::File(out_name.clone(), error))?;
             to_stdout(format!("{drawn}, written to {out_name}\n").as_bytes())?;
         }
@@ -140,14 +140,6 @@ impl Frame {
             0.0 - self.offset.y,
         )
     }
-}
-
-/// A picture's bytes, row by row: its cover or, as ink, the light that is left.
-fn tones(picture: &Picture, ink: bool) -> Vec<u8> {
-    let covers = picture.rows().flatten();
-    covers
-        .map(|&cover| if ink { 255 - cover } else { cover })
-        .collect()
 }
 
 fn to_stdout(bytes: &[u8]) -> Result<(), Failure> {

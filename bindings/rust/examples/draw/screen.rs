@@ -1,14 +1,13 @@
 //! A picture in the terminal: a column is a pixel wide, a row of characters two pixels high.
 
 use std::env;
-use std::fmt::Write;
 use std::io::{stdout, IsTerminal};
 
 /// How wide a picture is where COLUMNS does not say.
 const USUAL_COLUMNS: usize = 80;
 
-/// A character is at least half full from this tone on.
-const HALF: u8 = 128;
+/// A pixel is seen from this cover on: a third, since the strokes of a picture made small are thin.
+const SEEN: u8 = 85;
 
 /// The 256-colour palette has greys from 232, nearly black, to 255, nearly white.
 const DARKEST: u16 = 232;
@@ -34,17 +33,23 @@ impl Screen {
         }
     }
 
-    /// The lines that show a picture: rows of `width` tones, an even number of them.
-    pub fn lines(&self, tones: &[u8], width: usize) -> String {
+    /// The lines that show a picture: rows of `width` covers, an even number of them. Ink is dark on
+    /// a light ground.
+    pub fn lines(&self, covers: &[u8], width: usize, ink: bool) -> String {
         let line = if self.greys { grey_line } else { plain_line };
-        let pairs = tones.chunks_exact(2 * width).map(|two| two.split_at(width));
-        pairs.map(|(upper, lower)| line(upper, lower)).collect()
+        let pairs = covers
+            .chunks_exact(2 * width)
+            .map(|two| two.split_at(width));
+        pairs
+            .map(|(upper, lower)| line(upper, lower, ink))
+            .collect()
     }
 }
 
-fn plain_line(upper: &[u8], lower: &[u8]) -> String {
+fn plain_line(upper: &[u8], lower: &[u8], ink: bool) -> String {
+    let lit = |cover: u8| (cover >= SEEN) != ink;
     let pairs = upper.iter().zip(lower);
-    let blocks = pairs.map(|(&up, &low)| match (up >= HALF, low >= HALF) {
+    let blocks = pairs.map(|(&up, &low)| match (lit(up), lit(low)) {
         (false, false) => ' ',
         (true, false) => UPPER,
         (false, true) => '▄',
@@ -54,14 +59,14 @@ fn plain_line(upper: &[u8], lower: &[u8]) -> String {
 }
 
 /// Upper half blocks, in the colour of the upper pixel on that of the lower one.
-fn grey_line(upper: &[u8], lower: &[u8]) -> String {
+fn grey_line(upper: &[u8], lower: &[u8], ink: bool) -> String {
     let mut line = String::new();
     let mut before = None;
     for (&up, &low) in upper.iter().zip(lower) {
-        let colours = (grey(up), grey(low));
+        let colours = (grey(up, ink), grey(low, ink));
         if before != Some(colours) {
             let (front, back) = colours;
-            write!(line, "\x1b[38;5;{front};48;5;{back}m").expect("a string takes all");
+            line += &format!("\x1b[38;5;{front};48;5;{back}m");
             before = Some(colours);
         }
         line.push(UPPER);
@@ -69,38 +74,40 @@ fn grey_line(upper: &[u8], lower: &[u8]) -> String {
     line + "\x1b[0m\n"
 }
 
-/// The palette's number for a tone.
-fn grey(tone: u8) -> u16 {
-    DARKEST + (u16::from(tone) * STEPS + 127) / 255
+/// The palette's number for a cover.
+fn grey(cover: u8, ink: bool) -> u16 {
+    let light = if ink { 255 - cover } else { cover };
+    DARKEST + (u16::from(light) * STEPS + 127) / 255
 }
 
 #[cfg(test)]
 mod tests {
     use super::*;
 
+    fn screen(greys: bool) -> Screen {
+        let columns = 4;
+        Screen { columns, greys }
+    }
+
     #[test]
     fn a_pair_of_rows_is_a_line_of_half_blocks() {
-        let plain = Screen {
-            columns: 4,
-            greys: false,
-        };
-        let tones = [
+        let covers = [
             [0, 255, 0, 255],
             [0, 0, 255, 255],
-            [128, 127, 127, 128],
-            [127, 127, 128, 128],
-        ];
-        assert_eq!(plain.lines(&tones.concat(), 4), " ▀▄█\n▀ ▄█\n");
+            [85, 84, 84, 85],
+            [84, 84, 85, 85],
+        ]
+        .concat();
+        assert_eq!(screen(false).lines(&covers, 4, false), " ▀▄█\n▀ ▄█\n");
+        assert_eq!(screen(false).lines(&covers, 4, true), "█▄▀ \n▄█▀ \n");
     }
 
     #[test]
     fn greys_change_where_the_pixels_do() {
-        let coloured = Screen {
-            columns: 3,
-            greys: true,
-        };
-        let lines = coloured.lines(&[0, 0, 128, 255, 255, 0], 3);
-        let expected = "\x1b[38;5;232;48;5;255m▀▀\x1b[38;5;244;48;5;232m▀\x1b[0m\n";
-        assert_eq!(lines, expected);
+        let covers = [0, 0, 128, 255, 255, 0];
+        let light = "\x1b[38;5;232;48;5;255m▀▀\x1b[38;5;244;48;5;232m▀\x1b[0m\n";
+        let ink = "\x1b[38;5;255;48;5;232m▀▀\x1b[38;5;243;48;5;255m▀\x1b[0m\n";
+        assert_eq!(screen(true).lines(&covers, 3, false), light);
+        assert_eq!(screen(true).lines(&covers, 3, true), ink);
     }
 }
