@@ -51,12 +51,15 @@ fn request(words: &[OsString], ink: bool) -> Result<Request, String> {
     let (list, out, size) = match words {
         [] => return Err("no LIST: the file of a path list is wanted".into()),
         [list] => (list, Out::Screen, None),
-        [_, lone] if number(lone).is_some() => return Err(lone_number(lone)),
+        [_, lone] if number(lone).is_some() => return Err(no_size(lone)),
         [list, out] => (list, out_of(out), None),
         [list, width, height] if number(width).is_some() => {
             (list, Out::Screen, Some((width, height)))
         }
-        [_, _, lone] => return Err(lone_number(lone)),
+        [_, wide, lone] => {
+            let wide = quoted(wide);
+            return Err(format!("{wide} is no width, {}", no_size(lone)));
+        }
         [list, out, width, height] => (list, out_of(out), Some((width, height))),
         [_, _, _, _, more, ..] => return Err(format!("{} is a word too many", quoted(more))),
     };
@@ -91,8 +94,9 @@ fn number(word: &OsStr) -> Option<usize> {
     word.to_str()?.parse().ok()
 }
 
-fn lone_number(word: &OsStr) -> String {
-    format!("{} stands alone: a size is WIDTH HEIGHT", quoted(word))
+fn no_size(lone: &OsStr) -> String {
+    let lone = quoted(lone);
+    format!("{lone} alone is no size: a width and a height are wanted")
 }
 
 fn quoted(word: &OsStr) -> String {
@@ -162,7 +166,7 @@ mod tests {
     fn a_wrong_word_is_named() {
         let wanted = "a whole number of pixels is wanted";
         let none = "no LIST: the file of a path list is wanted";
-        let lone = "`640` stands alone: a size is WIDTH HEIGHT";
+        let lone = "`640` alone is no size: a width and a height are wanted";
         for (line, said) in [
             ("", none.into()),
             ("--ink", none.into()),
@@ -170,7 +174,7 @@ mod tests {
             ("a b 12 3.5", format!("`3.5` is no height: {wanted}")),
             ("a 12 y", format!("`y` is no height: {wanted}")),
             ("a -- b -1 2", format!("`-1` is no width: {wanted}")),
-            ("a b 640", lone.into()),
+            ("a b 640", format!("`b` is no width, {lone}")),
             ("a 640", lone.into()),
             ("a b 1 2 more", "`more` is a word too many".into()),
             ("a --inc", "`--inc` is no flag: --ink and --help are".into()),
