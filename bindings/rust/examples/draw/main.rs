@@ -111,12 +111,12 @@ impl Frame {
         }
     }
 
-    /// As wide as the screen, but no larger than the frame itself; an even number of rows.
+    /// As wide as the screen, but no larger than the frame itself.
     fn seen_on(&self, screen: &Screen) -> Label {
         let columns = self.width.min(screen.columns);
         let rows = (self.height * columns).div_ceil(self.width);
         let scale = columns as f32 / self.width as f32;
-        self.label(scale, columns, rows.next_multiple_of(2))
+        self.label(scale, columns, rows)
     }
 
     /// A size that is refused is told with the refusal.

@@ -33,16 +33,14 @@ impl Screen {
         }
     }
 
-    /// The lines that show a picture: rows of `width` covers, an even number of them. Ink is dark on
-    /// a light ground.
+    /// The lines that show a picture of rows of `width` covers. Ink is dark on a light ground.
     pub fn lines(&self, covers: &[u8], width: usize, ink: bool) -> String {
         let line = if self.greys { grey_line } else { plain_line };
-        let pairs = covers
-            .chunks_exact(2 * width)
-            .map(|two| two.split_at(width));
-        pairs
-            .map(|(upper, lower)| line(upper, lower, ink))
-            .collect()
+        let mut covers = covers.to_vec();
+        // Below an odd number of rows the ground shows.
+        covers.resize(covers.len().next_multiple_of(2 * width), 0);
+        let pairs = covers.chunks(2 * width).map(|two| two.split_at(width));
+        pairs.map(|(up, low)| line(up, low, ink)).collect()
     }
 }
 
@@ -100,6 +98,13 @@ mod tests {
         .concat();
         assert_eq!(screen(false).lines(&covers, 4, false), " ▀▄█\n▀ ▄█\n");
         assert_eq!(screen(false).lines(&covers, 4, true), "█▄▀ \n▄█▀ \n");
+    }
+
+    #[test]
+    fn below_an_odd_number_of_rows_the_ground_shows() {
+        let covers = [255, 0, 0, 255, 255, 0];
+        assert_eq!(screen(false).lines(&covers, 2, false), "▀▄\n▀ \n");
+        assert_eq!(screen(false).lines(&covers, 2, true), "▄▀\n▄█\n");
     }
 
     #[test]
