@@ -48,3 +48,56 @@ fn three_rows_and_one_are_the_only_steps() {
     let word_less = slanted(Fill::EvenOdd, WORDS - 1);
     assert_eq!(outcome_in(&word_less, Way::InBands(3)).number, 13);
 }
+
+/// All rows of the same label, as bindings/rust/tests/worked/ has them.
+#[test]
+fn the_stored_pictures_are_zenos() {
+    let even_odd = include_bytes!("../../bindings/rust/tests/worked/slanted_whole_even_odd.mask");
+    let nonzero = include_bytes!("../../bindings/rust/tests/worked/slanted_whole_nonzero.mask");
+    for (fill, mask) in [(Fill::EvenOdd, even_odd), (Fill::NonZero, nonzero)] {
+        let whole = Drawing {
+            first: 0,
+            end: 17,
+            mask: vec![0xA5; mask.len()],
+            ..slanted(fill, 1000)
+        };
+        let drawn = outcome(&whole);
+        assert_eq!((drawn.number, drawn.records, drawn.cells), (0, 12, 115));
+        assert_eq!(drawn.mask, mask, "{fill:?}");
+    }
+}
+
+/// FNV-1a, 64 bits.
+fn checksum(bytes: &[u8]) -> u64 {
+    bytes.iter().fold(0xCBF2_9CE4_8422_2325, |sum, &byte| {
+        (sum ^ u64::from(byte)).wrapping_mul(0x0100_0000_01B3)
+    })
+}
+
+/// The numbers that bindings/rust/tests/face/pictures.rs has of the example at two sizes.
+#[test]
+fn the_examples_checksums_are_zenos() {
+    let sizes = [
+        (1.0, 8_263, 0x0AD1_0571_B216_AC2D),
+        (2.0, 16_494, 0x6962_F6BC_4857_D771),
+    ];
+    for (scale, cells, sum) in sizes {
+        let (width, height) = (640 * scale as usize, 240 * scale as usize);
+        let label = Drawing {
+            list: include_bytes!("../../examples/label.mzp").to_vec(),
+            transform: Transform::scale(scale, scale),
+            offset: Point::new(0.0, 0.0),
+            up: false,
+            width,
+            height,
+            pitch: width,
+            first: 0,
+            end: height,
+            mask: vec![0; width * height],
+            ..slanted(Fill::NonZero, height + 4 * 16_384)
+        };
+        let drawn = outcome_in(&label, Way::InBands(height / 2));
+        assert_eq!((drawn.number, drawn.cells), (0, cells));
+        assert_eq!(checksum(&drawn.mask), sum);
+    }
+}
