@@ -9,9 +9,4 @@ pub mod Cells
 pub mod Bytes
 pub mod Drawing
 pub mod Placing
-pub mod Lists
 pub mod Demands
-pub mod Tried
-pub mod Table
-pub mod Trials
-pub mod Values

@@ -7,16 +7,16 @@ use mathlib.Core.List.{List, [], _∷_}
 use lib.Ieee.{ofBits, add, mul, lt, neg, ofInt}
 use lib.ListN.{replicate}
 use Rattle.label.specs.declared.Label.{Label}
 use Rattle.paper.specs.Numbers.{wrapped}
 use Rattle.paper.specs.PathList.{commandIn}
 use Rattle.paper.specs.Floats.{fixedOf}
 use Rattle.paper.specs.TurnedAway.{sizeFault, inputFault, allPass, recordFault, readFrom, readList}
 use Rattle.paper.specs.Lines as lines
 use Rattle.paper.specs.Cells.{spotIn, marks, stored, cellsOf, known, distinct}
 use Rattle.paper.specs.Bytes.{coverUpTo, areaAt, byteOf, painted}
 use Rattle.paper.specs.Drawing.{accepted, oneFull, inked, drawRead, drawIn, draw, band}
-use Rattle.paper.specs.Lists.{rectangle, label}
+use Rattle.tables.specs.Lists.{rectangle, label}
 use Rattle.paper.specs.Demands.{number, whole, LongEnough, Piece, Partition, cellsOver}
 
 abbrev k1 : Label
 k1 = label 4 3

@@ -12,22 +12,22 @@ use Rattle.geometry.specs.declared.Origin.the-variants.{TopLeft, BottomLeft}
 use Rattle.geometry.specs.Bits.{float, at}
 use Rattle.sweep.specs.declared.Fill.the-variants.{NonZero, EvenOdd}
 use Rattle.list.specs.Written.{move, line, quad, curve, close}
 use Rattle.paper.specs.Numbers.{wrapped}
 use Rattle.paper.specs.PathList.{commandIn}
 use Rattle.paper.specs.Floats.{fixedOf, identity, scale}
 use Rattle.paper.specs.TurnedAway.{sizeFault, inputFault, allPass, recordFault, readFrom, readList}
 use Rattle.paper.specs.Lines as lines
 use Rattle.paper.specs.Curves as curves
 use Rattle.paper.specs.Cells.{spotIn, marks, stored, cellsOf, known, distinct}
 use Rattle.paper.specs.Bytes.{coverUpTo, areaAt, byteOf, painted}
 use Rattle.paper.specs.Drawing.{oneFull, inked, drawRead, drawIn, draw, bandsFrom, drawInBands}
 use Rattle.paper.specs.Placing.{boxFrom, boxOf, pointsIn, bounds, floor, placementOf, placement}
-use Rattle.paper.specs.Lists.{−2048·004, −2048·0037, −2048, −2047, −9, −5, −4, −3, −2, −1, −0·5, n0}
-use Rattle.paper.specs.Lists.{−0, n0·25, n0·5, n0·75, n1, n2, n2·5, n3, n3·25, n4, n5, n6, n7, n8}
-use Rattle.paper.specs.Lists.{n2048, n2048·0037, n2048·004, n2049, huge, infinite, notNumber}
-use Rattle.paper.specs.Lists.{corners, rectangle, nulls, closes, affine, banded, label, under}
-use Rattle.paper.specs.Lists.{shiftedBy, drawn, full, turned, Draws, InBands, box, boxRefused, lies}
-use Rattle.paper.specs.Lists.{placeRefused}
+use Rattle.tables.specs.Lists.{−2048·004, −2048·0037, −2048, −2047, −9, −5, −4, −3, −2, −1, −0·5, n0}
+use Rattle.tables.specs.Lists.{−0, n0·25, n0·5, n0·75, n1, n2, n2·5, n3, n3·25, n4, n5, n6, n7, n8}
+use Rattle.tables.specs.Lists.{n2048, n2048·0037, n2048·004, n2049, huge, infinite, notNumber}
+use Rattle.tables.specs.Lists.{corners, rectangle, nulls, closes, affine, banded, label, under}
+use Rattle.tables.specs.Lists.{shiftedBy, drawn, full, turned, Draws, InBands, box, boxRefused, lies}
+use Rattle.tables.specs.Lists.{placeRefused}
 
 abbrev loop : List ℕ  -- a closed cubic that leaves the label at the top and at both sides
 loop = move n0·25 −1 ++ curve n8 n6 −4 n6 n4 −0·5 ++ close

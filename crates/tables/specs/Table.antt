@@ -7,18 +7,18 @@ use Rattle.geometry.specs.declared.Origin.the-variants.{BottomLeft}
 use Rattle.geometry.specs.Bits.{at}
 use Rattle.sweep.specs.declared.Fill.the-variants.{NonZero, EvenOdd}
 use Rattle.list.specs.Written.{move, line, close}
 use Rattle.paper.specs.Numbers.{wrapped}
 use Rattle.paper.specs.PathList.{commandIn}
 use Rattle.paper.specs.Floats.{fixedOf, identity}
 use Rattle.paper.specs.TurnedAway.{sizeFault, inputFault, allPass, recordFault, readFrom, readList}
 use Rattle.paper.specs.Lines as lines
 use Rattle.paper.specs.Curves as curves
 use Rattle.paper.specs.Cells.{spotIn, marks, stored, cellsOf, known, distinct}
 use Rattle.paper.specs.Bytes.{coverUpTo, areaAt, byteOf, painted}
 use Rattle.paper.specs.Drawing.{oneFull, inked, drawRead, drawIn, draw}
 use Rattle.paper.specs.Placing.{boxFrom, boxOf, pointsIn, bounds, floor, placementOf, placement}
-use Rattle.paper.specs.Lists.{−5, −1, n0, n0·25, n0·5, n1, n1·5, n2, n3, n3·25, n9, corners, label}
-use Rattle.paper.specs.Lists.{drawn, full, Draws, lies}
+use Rattle.tables.specs.Lists.{−5, −1, n0, n0·25, n0·5, n1, n1·5, n2, n3, n3·25, n9, corners, label}
+use Rattle.tables.specs.Lists.{drawn, full, Draws, lies}
 
 pub record Table : Type 0 where
   -- K1: rectangle (1,1) (3,1) (3,2) (1,2), 4×3

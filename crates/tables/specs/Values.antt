@@ -10,24 +10,24 @@ use Rattle.geometry.specs.Bits.{float, at}
 use Rattle.command.specs.declared.Command.the-variants.{MoveTo, LineTo, QuadTo, CurveTo, Close}
 use Rattle.sweep.specs.declared.Fill.the-variants.{NonZero, EvenOdd}
 use Rattle.label.specs.declared.Label.{Label}
 use Rattle.paper.specs.Numbers.{_/_, wrapped}
 use Rattle.paper.specs.Steps.{mostDoublings, mostSplits}
 use Rattle.paper.specs.PathList.{four, lengthOf, commandIn}
 use Rattle.paper.specs.Floats.{Spot, moved, shifted, combine, thenTranslate, translation, scale, identity}
 use Rattle.paper.specs.Floats.{fixedOf, near, passes, cell, fraction}
 use Rattle.paper.specs.TurnedAway.{inputFault}
 use Rattle.paper.specs.Lines as lines
 use Rattle.paper.specs.Lines.{enter, give}
 use Rattle.paper.specs.Curves as curves
 use Rattle.paper.specs.Cells.{Pair, pairAt, lifted, spotIn, marks, stored, cellsOf, known, distinct}
 use Rattle.paper.specs.Bytes.{coverUpTo, areaAt, value, byteOf}
 use Rattle.paper.specs.Drawing.{pool, bandsFrom}
 use Rattle.paper.specs.Placing.{floor, ceil}
-use Rattle.paper.specs.Lists.{−2048·004, −2048, −3, −1·0005, −1, −0·999, −0·5, −0·0039, −0·003, n0}
-use Rattle.paper.specs.Lists.{−0, n0·0001, n0·5, n0·999, n1, n1·0002, n2, n3, n4, n5, n6, n7, n8, n9}
-use Rattle.paper.specs.Lists.{n10, n11, n12, n13, n14, n17, n19, n31, n39, n46, n58, n94, n117, n140}
-use Rattle.paper.specs.Lists.{n197, n2048, n2048·0037, n2048·004, n16777216, infinite, notNumber}
-use Rattle.paper.specs.Lists.{affine, banded, label, under, shiftedBy}
+use Rattle.tables.specs.Lists.{−2048·004, −2048, −3, −1·0005, −1, −0·999, −0·5, −0·0039, −0·003, n0}
+use Rattle.tables.specs.Lists.{−0, n0·0001, n0·5, n0·999, n1, n1·0002, n2, n3, n4, n5, n6, n7, n8, n9}
+use Rattle.tables.specs.Lists.{n10, n11, n12, n13, n14, n17, n19, n31, n39, n46, n58, n94, n117, n140}
+use Rattle.tables.specs.Lists.{n197, n2048, n2048·0037, n2048·004, n16777216, infinite, notNumber}
+use Rattle.tables.specs.Lists.{affine, banded, label, under, shiftedBy}
 
 abbrev below : ℕ → ℤ  -- −n
 below n = negℤ (pos n)

@@ -1,0 +1,5 @@
+pub mod Lists
+pub mod Tried
+pub mod Table
+pub mod Trials
+pub mod Values
