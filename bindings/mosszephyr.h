@@ -11,9 +11,11 @@
  *     label.even_odd = true;
  *     MzDrawn drawn = mz_draw(list, list_len, label, mask, sizeof mask,
  *                             words, sizeof words / sizeof words[0]);
- *     if (drawn.number != MZ_ACCEPTED) {
- *         fprintf(stderr, "refused with %u, record %u: %s\n",
+ *     if (mz_names_a_record(drawn.number)) {
+ *         fprintf(stderr, "refused with %u at record %u: %s\n",
  *                 drawn.number, drawn.index, mz_words(drawn.number));
+ *     } else if (drawn.number != MZ_ACCEPTED) {
+ *         fprintf(stderr, "refused with %u: %s\n", drawn.number, mz_words(drawn.number));
  *     }
  *
  * What a call answers, and what it leaves in mask and words, is proved. The rules stand whole in
@@ -47,8 +49,8 @@
  *
  * Refusals
  * --------
- * Every call that takes a list answers with a number, 0 or a refusal's, and an index: that of the
- * record at fault, counted from 0, or 0 where it is none's. 1 to 7 are asked first, in this order.
+ * Every call that takes a list answers with a number, 0 or a refusal's, and an index: for 8 to 12
+ * that of the record at fault, counted from 0, and else 0. 1 to 7 are asked first, in this order.
  * Then each record is judged, from the first on, up to one that is refused: a cut header (8), 9,
  * 10, a cut body (8), 11, 12. A list must be judged to its end before it is drawn, so 13 comes
  * last. rows stands for end - first.
@@ -94,6 +96,14 @@
 #ifndef MOSSZEPHYR_H
 #define MOSSZEPHYR_H
 
+#ifdef __cplusplus
+#if __cplusplus < 201103L
+#error "mosszephyr.h needs C++11"
+#endif
+#elif !defined(__STDC_VERSION__) || __STDC_VERSION__ < 201112L
+#error "mosszephyr.h needs C11"
+#endif
+
 #include <assert.h>
 #include <stdbool.h>
 #include <stddef.h>
@@ -119,23 +129,32 @@ extern "C" {
 #define MZ_MOST_CELLS 16384
 
 /*
- * How many words mz_draw needs for a band of `rows` rows with a pool of `cells` places. This and
- * the next are constants where their arguments are; the next uses an argument more than once.
+ * How many words mz_draw needs for a band of `rows` rows with a pool of `cells` places. A row stores
+ * at most width + 1 places: (width + 1) * rows cells are always enough, and no pool has more than
+ * MZ_MOST_CELLS. This and the next are constants where their arguments are; the next uses an
+ * argument more than once.
  */
-#define MZ_WORKSPACE_WORDS(rows, cells) ((size_t)(rows) + 4 * (size_t)(cells))
+#define MZ_WORKSPACE_WORDS(rows, cells) (MZ_COUNT(rows) + 4 * MZ_COUNT(cells))
 
 /*
  * How many words mz_draw_in_bands needs for `rows` rows in bands of `step` rows, none of which has
- * more than `cells` places. 5 asks for a word for each of all the rows; 13 asks for a word for each
- * row of a band and four for each of its places. The larger of the two is enough for both.
+ * more than `cells` places: (width + 1) * step are always enough, and with a step of up to
+ * MZ_MOST_CELLS / (width + 1) rows it never says 13. 5 asks for a word for each of all the rows; 13
+ * asks for a word for each row of a band and four for each of its places. The larger of the two is
+ * enough for both.
  */
 #define MZ_BANDS_WORDS(rows, step, cells)                                                          \
-    MZ_LARGER((size_t)(rows), MZ_WORKSPACE_WORDS(MZ_BAND_ROWS(rows, step), cells))
+    MZ_LARGER(MZ_COUNT(rows), MZ_WORKSPACE_WORDS(MZ_BAND_ROWS(rows, step), cells))
 
-/* For the macro above: how many rows the highest band has. */
+/* For the macros above: how many rows the highest band has, and a number as a size. */
 #define MZ_BAND_ROWS(rows, step)                                                                   \
-    ((size_t)(step) < (size_t)(rows) ? MZ_LARGER((size_t)(step), (size_t)1) : (size_t)(rows))
+    (MZ_COUNT(step) < MZ_COUNT(rows) ? MZ_LARGER(MZ_COUNT(step), MZ_COUNT(1)) : MZ_COUNT(rows))
 #define MZ_LARGER(a, b) ((a) < (b) ? (b) : (a))
+#ifdef __cplusplus
+#define MZ_COUNT(number) static_cast<size_t>(number)
+#else
+#define MZ_COUNT(number) ((size_t)(number))
+#endif
 
 /* The numbers that a call answers with; the table above says when. */
 enum {
@@ -163,7 +182,7 @@ static inline const char *mz_words(uint32_t number) {
     case MZ_BAND: return "the band does not lie within the label";
     case MZ_PITCH: return "the pitch is below the width or above 65,536 bytes";
     case MZ_MASK: return "the mask is too short for the band";
-    case MZ_WORKSPACE: return "the workspace has fewer words than the band has rows";
+    case MZ_WORKSPACE: return "the workspace has fewer words than there are rows to draw";
     case MZ_FLOAT: return "a transform entry or an offset part is NaN or infinite";
     case MZ_LIST: return "the path list is longer than 65,536 bytes";
     case MZ_CUT: return "the end of the list cuts the record";
@@ -175,6 +194,14 @@ static inline const char *mz_words(uint32_t number) {
     case MZ_ROOM: return "the drawing needs more places than the workspace has room for";
     default: return "an unknown refusal";
     }
+}
+
+/*
+ * Whether the index that comes with a number is that of a record at fault. (One 12 has none: where
+ * an empty list's placement is refused for its offset.)
+ */
+static inline bool mz_names_a_record(uint32_t number) {
+    return number >= MZ_CUT && number <= MZ_POINT;
 }
 
 /*
@@ -204,6 +231,8 @@ typedef struct MzPoint {
  *     label.transform = mz_scale(2, 2);
  *     label.pitch = 1024;
  *
+ * pitch and end do not follow width and height: for another size call mz_label again.
+ *
  * A label begun with {0} has a transform of zeros, which sends every point to one place: with size,
  * pitch and end filled in it draws nothing, and is refused by nothing.
  */
@@ -217,8 +246,9 @@ typedef struct MzLabel {
     size_t width;          /* of the whole label, in pixels, 0 allowed */
     size_t height;
     size_t pitch;          /* bytes from one mask row to the next */
-    size_t first;          /* the rows that are drawn, first to end - 1: a band. The mask's first */
-    size_t end;            /* byte belongs to the band, not to the label */
+    size_t first;          /* the rows that are drawn, first to end - 1: a band, counted as y is, */
+    size_t end;            /* so up the band [0, 1) is the picture's last row. The mask's first
+                              byte belongs to the band, not to the label */
 } MzLabel;
 
 /* What a drawing answers. */
@@ -371,8 +401,13 @@ MzPoint mz_transform_vector(MzTransform t, float x, float y);
 
 /* The archive's sizes, and each field's place and size: laid out otherwise it does not compile. */
 #define MZ_HAS_SIZE(type, size) static_assert(sizeof(type) == (size), "size of " #type)
+#ifdef __cplusplus
+#define MZ_SIZE_OF(type, field) sizeof(type::field)
+#else
+#define MZ_SIZE_OF(type, field) sizeof(((type *)0)->field)
+#endif
 #define MZ_STANDS_AT(type, field, at, size)                                                        \
-    static_assert(offsetof(type, field) == (at) && sizeof(((type *)0)->field) == (size),           \
+    static_assert(offsetof(type, field) == (at) && MZ_SIZE_OF(type, field) == (size),              \
                   #type "." #field)
 
 MZ_HAS_SIZE(MzTransform, 24);
@@ -424,6 +459,7 @@ MZ_STANDS_AT(MzPlacement, width, 24, 4);
 MZ_STANDS_AT(MzPlacement, height, 28, 4);
 
 #undef MZ_HAS_SIZE
+#undef MZ_SIZE_OF
 #undef MZ_STANDS_AT
 
 #endif

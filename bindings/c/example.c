@@ -19,7 +19,7 @@ static uint32_t words[MZ_WORKSPACE_WORDS(ROWS, MZ_MOST_CELLS)];
 
 static void tell(MzDrawn drawn) {
     fprintf(stderr, "example: refused with %u: %s", (unsigned)drawn.number, mz_words(drawn.number));
-    if (drawn.number >= MZ_CUT && drawn.number <= MZ_POINT) {
+    if (mz_names_a_record(drawn.number)) {
         fprintf(stderr, ", in record %u", (unsigned)drawn.index);
     }
     fputc('\n', stderr);

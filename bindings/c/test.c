@@ -295,7 +295,7 @@ static void refusals_have_words(void) {
         "the band does not lie within the label",
         "the pitch is below the width or above 65,536 bytes",
         "the mask is too short for the band",
-        "the workspace has fewer words than the band has rows",
+        "the workspace has fewer words than there are rows to draw",
         "a transform entry or an offset part is NaN or infinite",
         "the path list is longer than 65,536 bytes",
         "the end of the list cuts the record",
@@ -308,6 +308,7 @@ static void refusals_have_words(void) {
     };
     for (uint32_t number = 0; number < LENGTH(words); number += 1) {
         check(strcmp(mz_words(number), words[number]) == 0, words[number]);
+        check(mz_names_a_record(number) == (number > 7 && number < 13), "mz_names_a_record");
     }
     check(strcmp(mz_words(UINT32_MAX), words[14]) == 0, words[14]);
 }

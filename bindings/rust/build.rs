@@ -85,7 +85,7 @@ fn not_found(installed: Option<&Path>, built: &Path) -> String {
     };
     format!(
         "{ARCHIVE} is not found: MOSSZEPHYR_LIB_DIR is not set, {installed}, and it is not in {}. \
-         At the repository's root run `rt staticlib mosszephyr`, or `./install PREFIX` and set \
+         At the repository's root run `bindings/archive`, or `./install PREFIX` and set \
          MOSSZEPHYR_LIB_DIR=PREFIX/lib",
         built.display()
     )
@@ -99,7 +99,7 @@ fn warn_if_old(archive: &Path, sources: &Path) {
     let built = changed(archive);
     if let Some(newer) = newer_source(sources, built) {
         println!(
-            "cargo::warning={} is older than {}: run `rt staticlib mosszephyr` at the repository's root",
+            "cargo::warning={} is older than {}: run `bindings/archive` at the repository's root",
             archive.display(),
             newer.display()
         );

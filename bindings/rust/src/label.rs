@@ -127,7 +127,8 @@ pub const fn bands_words(rows: usize, step: usize, cells: usize) -> Option<usize
     }
 }
 
-/// Draws the rows `band` of a label into a lent mask, with a lent workspace.
+/// Draws the rows `band` of a label into a lent mask, with a lent workspace. They are the path's rows:
+/// for [`Origin::BottomLeft`] row 0 is the picture's last.
 ///
 /// The mask is the band's: its first byte belongs to the band's first row, or for
 /// [`Origin::BottomLeft`] to its last. It needs [`mask_bytes`] bytes for the band's rows. The

@@ -39,7 +39,7 @@
 //! or misuse memory, and every call returns. The library has no state, so any number of threads may
 //! call it.
 //!
-//! The work is done by `libmosszephyr.a`, which `rt staticlib mosszephyr` writes to
+//! The work is done by `libmosszephyr.a`, which `bindings/archive` writes to
 //! `target/staticlib` at the repository's root. It is looked for in the folder that
 //! `MOSSZEPHYR_LIB_DIR` names, then where pkg-config knows it, then there.
 //!

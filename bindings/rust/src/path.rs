@@ -84,6 +84,18 @@ impl Path {
         self.bytes
     }
 
+    /// How many bytes the list has; more than [`MOST_LIST`](crate::MOST_LIST) are refused with 7.
+    #[must_use]
+    pub fn len(&self) -> usize {
+        self.bytes.len()
+    }
+
+    /// Whether there is no command.
+    #[must_use]
+    pub fn is_empty(&self) -> bool {
+        self.bytes.is_empty()
+    }
+
     /// The path's commands, each as the library would read it: see [`commands`](crate::commands).
     pub fn commands(&self) -> Commands<'_> {
         commands(self)
@@ -182,6 +194,12 @@ impl fmt::Debug for Path {
     }
 }
 
+impl From<Vec<u8>> for Path {
+    fn from(bytes: Vec<u8>) -> Path {
+        Path { bytes }
+    }
+}
+
 impl AsRef<[u8]> for Path {
     fn as_ref(&self) -> &[u8] {
         self.as_bytes()
@@ -224,6 +242,10 @@ mod tests {
     fn bytes_come_back_as_they_went_in() {
         let bytes: Vec<u8> = (0..=255).collect();
         assert_eq!(Path::from_bytes(bytes.clone()).into_bytes(), bytes);
+        let path = Path::from(bytes.clone());
+        assert_eq!((path.len(), path.is_empty()), (256, false));
+        assert_eq!(path.into_bytes(), bytes);
         assert!(Path::from_bytes([]).as_bytes().is_empty());
+        assert!(Path::new().is_empty());
     }
 }

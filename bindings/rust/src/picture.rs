@@ -100,7 +100,8 @@ impl fmt::Debug for Picture {
 /// Draws a whole label into a mask of its own.
 ///
 /// It is drawn at once where it stores no more than [`MOST_CELLS`](crate::MOST_CELLS) places, and
-/// else in bands that do. Nothing is allocated for a label that is too large.
+/// else in bands that do. Nothing is allocated for a label that is too large. The list is the bytes
+/// themselves and not a file's name, though a `str` has bytes too.
 ///
 /// # Errors
 ///

@@ -11,7 +11,7 @@ use std::fmt;
 /// | 2 | the band's start is above its end, or its end above height |
 /// | 3 | pitch is below width or above 65,536 |
 /// | 4 | the band has rows and the mask is shorter than pitch · (rows − 1) + width |
-/// | 5 | the workspace has fewer words than the band has rows |
+/// | 5 | the workspace has fewer words than there are rows to draw |
 /// | 6 | a number of the transform or of the offset is NaN or infinite |
 /// | 7 | the list is longer than 65,536 bytes |
 /// | 8 | a record is cut: 1 to 3 bytes are left, or its body passes the end |
@@ -146,7 +146,7 @@ impl Refusal {
             Refusal::Band => "the band does not lie within the label",
             Refusal::Pitch => "the pitch is below the width or above 65,536 bytes",
             Refusal::Mask => "the mask is too short for the band",
-            Refusal::Workspace => "the workspace has fewer words than the band has rows",
+            Refusal::Workspace => "the workspace has fewer words than there are rows to draw",
             Refusal::Float => "a transform entry or an offset part is NaN or infinite",
             Refusal::List => "the path list is longer than 65,536 bytes",
             Refusal::Cut(_) => "the end of the list cuts the record",

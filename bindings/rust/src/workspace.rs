@@ -116,7 +116,8 @@ impl fmt::Debug for Workspace {
     }
 }
 
-/// A label's bands, drawn one after the other into one buffer: see [`Workspace::bands`].
+/// A label's bands, drawn one after the other into one buffer: see [`Workspace::bands`]. No
+/// `Iterator` can lend a buffer of its own, so it is `while let Some(band) = bands.next()`.
 #[must_use = "no band is drawn before it is asked for"]
 pub struct Bands<'a> {
     list: &'a [u8],
@@ -136,7 +137,6 @@ impl Bands<'_> {
     ///
     /// Never with a library that keeps its promises. Should it refuse a band of a label that it
     /// accepted, this panics with its words: half a label is not handed on as a whole one.
-    // No Iterator, since that could not lend its buffer.
     #[allow(clippy::should_implement_trait)]
     pub fn next(&mut self) -> Option<Band<'_>> {
         if self.next == self.label.height {

@@ -52,17 +52,17 @@ fn request(words: &[OsString], ink: bool) -> Result<Request, String> {
         [] => return Err("no LIST: the file of a path list is wanted".into()),
         [list] => (list, Out::Screen, None),
         [_, lone] if number(lone).is_some() => return Err(no_size(lone)),
-        [list, out] => (list, out_of(out), None),
+        [list, out] => (list, out_of(out)?, None),
         [list, width, height] if number(width).is_some() => {
             (list, Out::Screen, Some((width, height)))
         }
-        [_, wide, lone] => {
-            let wide = quoted(wide);
-            return Err(format!("{wide} is no width, {}", no_size(lone)));
-        }
-        [list, out, width, height] => (list, out_of(out), Some((width, height))),
+        [_, out, lone] => return Err(out_of(out).map_or_else(|no_out| no_out, |_| no_size(lone))),
+        [list, out, width, height] => (list, out_of(out)?, Some((width, height))),
         [_, _, _, _, more, ..] => return Err(format!("{} is a word too many", quoted(more))),
     };
+    if out == Out::File(list.into()) {
+        return Err(format!("{} is both LIST and OUT", quoted(list)));
+    }
     let size = match size {
         Some((width, height)) => Some((pixels(width, "width")?, pixels(height, "height")?)),
         None => None,
@@ -75,12 +75,18 @@ fn request(words: &[OsString], ink: bool) -> Result<Request, String> {
     })
 }
 
-fn out_of(word: &OsStr) -> Out {
+/// Only a picture's name is taken, so that a word in a wrong place overwrites no list.
+fn out_of(word: &OsStr) -> Result<Out, String> {
     if word == "-" {
-        Out::Stdout
-    } else {
-        Out::File(word.into())
+        return Ok(Out::Stdout);
     }
+    if Path::new(word).extension() == Some(OsStr::new("pgm")) {
+        return Ok(Out::File(word.into()));
+    }
+    let word = quoted(word);
+    Err(format!(
+        "{word} is no OUT: a name that ends in .pgm is wanted, or - for standard output"
+    ))
 }
 
 fn pixels(word: &OsStr, side: &str) -> Result<usize, String> {
@@ -128,11 +134,12 @@ mod tests {
     #[test]
     fn the_number_of_words_tells_what_they_are() {
         assert_eq!(asked_by("a.mzp"), drawing(Out::Screen, None, false));
-        assert_eq!(asked_by("a.mzp b"), drawing(file("b"), None, false));
+        let b = || file("b.pgm");
+        assert_eq!(asked_by("a.mzp b.pgm"), drawing(b(), None, false));
         assert_eq!(asked_by("a.mzp -"), drawing(Out::Stdout, None, false));
         let size = Some((640, 240));
         assert_eq!(asked_by("a.mzp 640 240"), drawing(Out::Screen, size, false));
-        assert_eq!(asked_by("a.mzp b 640 240"), drawing(file("b"), size, false));
+        assert_eq!(asked_by("a.mzp b.pgm 640 240"), drawing(b(), size, false));
         assert_eq!(
             asked_by("a.mzp - 640 240"),
             drawing(Out::Stdout, size, false)
@@ -141,18 +148,31 @@ mod tests {
 
     #[test]
     fn flags_stand_anywhere_before_two_dashes() {
-        for line in ["--ink a.mzp b", "a.mzp --ink b", "a.mzp b --ink"] {
-            assert_eq!(asked_by(line), drawing(file("b"), None, true), "{line}");
+        for line in [
+            "--ink a.mzp b.pgm",
+            "a.mzp --ink b.pgm",
+            "a.mzp b.pgm --ink",
+        ] {
+            assert_eq!(asked_by(line), drawing(file("b.pgm"), None, true), "{line}");
         }
         assert_eq!(
-            asked_by("--ink -- a.mzp --help"),
-            drawing(file("--help"), None, true)
+            asked_by("--ink -- a.mzp --help.pgm"),
+            drawing(file("--help.pgm"), None, true)
         );
+        let dashes = asked_by("-- --ink --.pgm").unwrap();
+        let list = "--ink".into();
+        let out = file("--.pgm");
+        let size = None;
+        let ink = false;
         assert_eq!(
-            asked_by("a.mzp -- --ink"),
-            drawing(file("--ink"), None, false)
+            dashes,
+            Asked::Drawing(Request {
+                list,
+                out,
+                size,
+                ink
+            })
         );
-        assert_eq!(asked_by("a.mzp -- --"), drawing(file("--"), None, false));
     }
 
     #[test]
@@ -167,15 +187,25 @@ mod tests {
         let wanted = "a whole number of pixels is wanted";
         let none = "no LIST: the file of a path list is wanted";
         let lone = "`640` alone is no size: a width and a height are wanted";
+        let no_out = |word: &str| {
+            format!(
+                "`{word}` is no OUT: a name that ends in .pgm is wanted, or - for standard output"
+            )
+        };
         for (line, said) in [
             ("", none.into()),
             ("--ink", none.into()),
-            ("a b 12x 3", format!("`12x` is no width: {wanted}")),
-            ("a b 12 3.5", format!("`3.5` is no height: {wanted}")),
+            ("a b.pgm 12x 3", format!("`12x` is no width: {wanted}")),
+            ("a - 12 3.5", format!("`3.5` is no height: {wanted}")),
             ("a 12 y", format!("`y` is no height: {wanted}")),
-            ("a -- b -1 2", format!("`-1` is no width: {wanted}")),
-            ("a b 640", format!("`b` is no width, {lone}")),
+            ("a -- b.pgm -1 2", format!("`-1` is no width: {wanted}")),
+            ("a b.pgm 640", lone.into()),
             ("a 640", lone.into()),
+            ("a b.mzp", no_out("b.mzp")),
+            ("a 640x240", no_out("640x240")),
+            ("a b 640", no_out("b")),
+            ("a .pgm 6 4", no_out(".pgm")),
+            ("a.pgm a.pgm", "`a.pgm` is both LIST and OUT".into()),
             ("a b 1 2 more", "`more` is a word too many".into()),
             ("a --inc", "`--inc` is no flag: --ink and --help are".into()),
             ("a b -1 2", "`-1` is no flag: --ink and --help are".into()),

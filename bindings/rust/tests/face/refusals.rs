@@ -93,7 +93,7 @@ fn workspace_is_5() {
     for count in [0, 2] {
         let refusal = band_refusal(&Label::new(4, 3), 0..3, 12, count);
         assert_eq!((refusal, refusal.number()), (Refusal::Workspace, 5));
-        let words = "the workspace has fewer words than the band has rows";
+        let words = "the workspace has fewer words than there are rows to draw";
         assert_eq!(refusal.words(), words);
     }
 }
