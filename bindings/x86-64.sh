@@ -1,5 +1,6 @@
-# Sourced by ./draw, .ci/run and bindings/c/run. `rt staticlib` writes an archive for x86-64 alone: on another machine what links it is built by a
-# cross compiler and run by an emulator, which .ci/install brings where apt-get does. Sets
+# Sourced by ./draw, .ci/run and the scripts of bindings/, and by whoever links the library on an Arm machine. `rt staticlib` writes an
+# archive for x86-64 alone: on another machine what links it is built by a cross compiler and run by an emulator, which .ci/install
+# brings where apt-get does. Sets
 #   cc, cxx     the compilers of C and C++
 #   run         what a program is run by: nothing on x86-64
 #   built       the folder below cargo's target folder in which a release build stands

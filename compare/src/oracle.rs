@@ -1,7 +1,7 @@
-//! What zeno answers, as safe functions. Its transforms are called through their own methods
-//! (`then_scale`, `then_translate`, `then`, `pre_scale`, `pre_translate`, `transform_point`,
-//! `transform_vector`), its placements through `Placement::compute`, a box of points through
-//! `Bounds::from_points`; the rasterizer needs the care that stands here.
+//! What zeno answers, as safe functions. Its transforms are called through their own functions
+//! (`translation`, `scale`, `then`, `then_scale`, `then_translate`, `pre_scale`, `pre_translate`,
+//! `transform_point`, `transform_vector`), its placements through `Placement::compute`, a box of
+//! points through `Bounds::from_points`; the rasterizer needs the care that stands here.
 
 use crate::zeno::path_data;
 use crate::zeno::raster::{Cell, FixedPoint, RasterStorage, Rasterizer};

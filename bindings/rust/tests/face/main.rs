@@ -12,7 +12,7 @@ mod refusals;
 mod transforms;
 mod worked;
 
-use mosszephyr::{draw, Label, Path, Picture};
+use mosszephyr::{draw, Label, Path, Picture, Point};
 
 /// Lines through these points, closed.
 fn closed(points: &[(f32, f32)]) -> Path {
@@ -53,6 +53,32 @@ fn round_figure() -> Path {
         .quad_to((11.5, 15.25), (20.0, 8.0))
         .close();
     path
+}
+
+/// Three labels with a fault more each: a NaN in the offset, a pitch below the width, a width that
+/// is too large.
+fn faulty_labels() -> [Label; 3] {
+    let endless = Label {
+        offset: Point::new(f32::NAN, 0.0),
+        ..Label::new(4, 3)
+    };
+    let narrow = Label {
+        pitch: 3,
+        ..endless
+    };
+    let wide = Label {
+        width: 2049,
+        ..narrow
+    };
+    [endless, narrow, wide]
+}
+
+/// Throws of dice with so many sides, the same in each run.
+fn dice(mut state: u32) -> impl FnMut(u32) -> u32 {
+    move |sides| {
+        state = state.wrapping_mul(1_664_525).wrapping_add(1_013_904_223);
+        (state >> 16) % sides
+    }
 }
 
 /// Upright lines, one in each column and one before them: every row has width + 1 places.

@@ -2,8 +2,8 @@
 
 use std::ops::Range;
 
-use crate::{comb, k1, rectangle, round_figure};
-use mosszephyr::{draw, Label, Origin, Path, Point, Refusal, Workspace};
+use crate::{comb, faulty_labels, k1, rectangle, round_figure};
+use mosszephyr::{draw, Label, Origin, Path, Refusal, Workspace};
 
 /// The rows of each band, and the picture that they make together without the pitch's gaps.
 fn printed(list: &Path, label: &Label, bytes: usize) -> (Vec<Range<usize>>, Vec<u8>) {
@@ -137,18 +137,7 @@ fn refusal(list: &[u8], label: &Label, bytes: usize) -> Refusal {
 #[test]
 fn refusals_come_before_any_band_in_their_order() {
     let long = vec![0; 65_537];
-    let endless = Label {
-        offset: Point::new(f32::NAN, 0.0),
-        ..Label::new(4, 3)
-    };
-    let narrow = Label {
-        pitch: 3,
-        ..endless
-    };
-    let wide = Label {
-        width: 2049,
-        ..narrow
-    };
+    let [endless, narrow, wide] = faulty_labels();
     assert_eq!(refusal(&long, &wide, 3), Refusal::Size);
     assert_eq!(refusal(&long, &narrow, 3), Refusal::Pitch);
     assert_eq!(refusal(&long, &endless, 3), Refusal::Mask);

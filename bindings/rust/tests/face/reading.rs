@@ -1,6 +1,6 @@
 //! A list read back as commands, and refused as the library refuses it.
 
-use crate::{k1, round_figure};
+use crate::{dice, k1, round_figure};
 use mosszephyr::{commands, draw_band, Command, Label, Path, Point, Refusal};
 use Command::{Close, CurveTo, LineTo, MoveTo, QuadTo};
 
@@ -146,11 +146,7 @@ fn parts_of_a_list_are_refused_as_the_library_refuses_them() {
 /// Records of any kind with any length, some of them right, in front of bytes of no meaning.
 #[test]
 fn bytes_of_no_meaning_are_refused_as_the_library_refuses_them() {
-    let mut state = 5u32;
-    let mut dice = move |sides: u32| {
-        state = state.wrapping_mul(1_664_525).wrapping_add(1_013_904_223);
-        (state >> 16) % sides
-    };
+    let mut dice = dice(5);
     for _ in 0..4000 {
         let mut list = Vec::new();
         for _ in 0..dice(5) {

@@ -2,7 +2,7 @@
 
 use std::ops::Range;
 
-use crate::k1;
+use crate::{dice, faulty_labels, k1};
 use mosszephyr::{
     bounds, draw, draw_band, placement, Label, Origin, Path, Point, Refusal, Transform,
 };
@@ -254,13 +254,9 @@ fn every_cut_is_told() {
 /// Bytes of no meaning are answered too.
 #[test]
 fn any_bytes_are_answered() {
-    let mut state = 1u32;
-    let mut byte = || {
-        state = state.wrapping_mul(1_664_525).wrapping_add(1_013_904_223);
-        (state >> 24) as u8
-    };
+    let mut dice = dice(1);
     for length in 0..300 {
-        let mut bytes: Vec<u8> = (0..length).map(|_| byte()).collect();
+        let mut bytes: Vec<u8> = (0..length).map(|_| dice(256) as u8).collect();
         let noise = Path::from_bytes(bytes.clone());
         let accepted = draw(&noise, &Label::new(4, 3)).is_ok();
         assert_eq!(accepted, length == 0);
@@ -274,23 +270,12 @@ fn any_bytes_are_answered() {
 
 #[test]
 fn refusals_come_in_their_order() {
-    let endless = Label {
-        offset: Point::new(f32::NAN, 0.0),
-        ..Label::new(4, 3)
-    };
+    let [endless, narrow, wide] = faulty_labels();
     let number = |label: &Label, end, bytes, count| {
         let (mut mask, mut words) = (vec![0; bytes], vec![0; count]);
         let path = Path::from_bytes(vec![0; 65_537]);
         let drawn = draw_band(&path, label, 0..end, &mut mask, &mut words);
         drawn.unwrap_err().number()
-    };
-    let narrow = Label {
-        pitch: 3,
-        ..endless
-    };
-    let wide = Label {
-        width: 2049,
-        ..narrow
     };
     assert_eq!(number(&wide, 4, 0, 0), 1);
     assert_eq!(number(&narrow, 4, 0, 0), 2);
