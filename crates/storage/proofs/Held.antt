@@ -1,16 +1,18 @@
--- The two ways in which `store` changes the words, read cell by cell: a sum in two words, or a new cell and the link to it.
--- What each leaves is a pool with the deposit behind the others, by the laws of links.
+-- The ways in which `store` changes the words, read cell by cell: a sum in two words, or a new cell and the links to it.
+-- What each leaves is a pool with the deposit behind the others, by the laws of links; a link back changes nothing that the words hold.
 use mathlib.Core.Path.{_≡_, refl, sym, ap, _∙_, subst, fun-ext}
 use mathlib.Core.List.{List, [], _∷_, _++_}
 use Prim.Native.Nat.{ℕ, zero, suc, _+_, _*_, _/_, _%_, _^_, _≤_, _<_}
 use native.Mathlib.Omega.{arith}
 use native.Mathlib.Nat.{add-zero}
 use native.Mathlib.Numerals.{add-one}
+use native.Mathlib.Decide.{ℕ-discrete}
+use borrow.Author.Tests.{le-ltb}
 use lib.ListN.{length, getD, set, length-set}
 use lib.Seq.{getD-set-same, getD-set-other}
 use Rattle.storage.specs.Deposits.{perRow, Deposit}
-use Rattle.storage.specs.Cells.{Named, low, high, Pool, placeAt, word, linkWord, linkAt, Holds, withSum, withPair, withCell}
-use Rattle.storage.proofs.Words.{link-word-lt}
+use Rattle.storage.specs.Cells.{Named, low, high, Pool, half, nextIn, backIn, linksOf, placeAt, word, linkWord, linkAt, Holds, withSum, withPair, withCell, withNext, withBack, withLed, withNew}
+use Rattle.storage.proofs.Words.{next-links, link-word-lt}
 use Rattle.storage.proofs.Linked.{again, anew}
 
 -- ---- reading what was written
@@ -35,8 +37,8 @@ module _ (ws : List ℕ) (at cover area : ℕ) where
         same (withSum ws (at + 1) cover) (at + 2) _ (simp length-set (omega arith))
         ∙ ap (λ (x : ℕ). (x + area) % 2 ^ 32) (other ws (at + 1) (at + 2) _ (omega arith))
 
-module _ (ws : List ℕ) (at place cover area next : ℕ) where
-  cell-before : (i : ℕ) → i < at → getD (withCell ws at place cover area next) i 0 ≡ getD ws i 0
+module _ (ws : List ℕ) (at place cover area links : ℕ) where
+  cell-before : (i : ℕ) → i < at → getD (withCell ws at place cover area links) i 0 ≡ getD ws i 0
   cell-before i h =
       let n₀ : i ≡ at → ⊥ = omega arith in
       let n₁ : i ≡ at + 1 → ⊥ = omega arith in
@@ -45,7 +47,7 @@ module _ (ws : List ℕ) (at place cover area next : ℕ) where
       rw (other, other, other, other) refl
 
   module _ (fits : at + 3 < length ws) where
-    cell-place : getD (withCell ws at place cover area next) at 0 ≡ place
+    cell-place : getD (withCell ws at place cover area links) at 0 ≡ place
     cell-place =
         let n₁ : at ≡ at + 1 → ⊥ = omega arith in
         let n₂ : at ≡ at + 2 → ⊥ = omega arith in
@@ -53,21 +55,21 @@ module _ (ws : List ℕ) (at place cover area next : ℕ) where
         let h : at < length ws = omega arith in
         rw (other, other, other, same) refl
 
-    cell-cover : getD (withCell ws at place cover area next) (at + 1) 0 ≡ cover
+    cell-cover : getD (withCell ws at place cover area links) (at + 1) 0 ≡ cover
     cell-cover =
         let n₂ : at + 1 ≡ at + 2 → ⊥ = omega arith in
         let n₃ : at + 1 ≡ at + 3 → ⊥ = omega arith in
         let h : at + 1 < length (set ws at place) = simp length-set (omega arith) in
         rw (other, other, same) refl
 
-    cell-area : getD (withCell ws at place cover area next) (at + 2) 0 ≡ area
+    cell-area : getD (withCell ws at place cover area links) (at + 2) 0 ≡ area
     cell-area =
         let n₃ : at + 2 ≡ at + 3 → ⊥ = omega arith in
         let h : at + 2 < length (set (set ws at place) (at + 1) cover) = simp length-set (omega arith) in
         rw (other, same) refl
 
-    cell-next : getD (withCell ws at place cover area next) (at + 3) 0 ≡ next
-    cell-next = same (set (set (set ws at place) (at + 1) cover) (at + 2) area) (at + 3) next (simp length-set (omega arith))
+    cell-links : getD (withCell ws at place cover area links) (at + 3) 0 ≡ links
+    cell-links = same (set (set (set ws at place) (at + 1) cover) (at + 2) area) (at + 3) links (simp length-set (omega arith))
 
 -- ---- the word of a link
 
@@ -76,6 +78,36 @@ module _ (rows row : ℕ) (hrow : row < rows) where
   link-part : (j p : ℕ) → p < 3 → (l : ℕ) → rows + 4 * j + p ≡ linkWord rows row l → ⊥
   link-part j p h zero = omega arith
   link-part j p h (suc k) = omega arith
+
+-- ---- a link back
+
+-- a pool is what it reads as
+same-pool : {place place′ cover cover′ area area′ : ℕ → ℕ} {link link′ : ℕ → ℕ → ℕ} {rows width count : ℕ} {log : List Deposit}
+    → ((j : ℕ) → place′ j ≡ place j) → ((j : ℕ) → cover′ j ≡ cover j) → ((j : ℕ) → area′ j ≡ area j) → ((r l : ℕ) → link′ r l ≡ link r l)
+    → Pool place cover area link rows width count log → Pool place′ cover′ area′ link′ rows width count log
+same-pool p c a l P = rw (fun-ext p, fun-ext c, fun-ext a, fun-ext (λ r. fun-ext (l r))) P
+
+-- whatever it is, the words hold what they held
+module _ (ws : List ℕ) (rows width count : ℕ) (log : List Deposit) (P : Holds ws rows width count log) (row last n : ℕ) (hrow : row < rows)
+    (fits : linkWord rows row last < length ws) where
+  back-part : (j p : ℕ) → p < 3 → getD (withBack ws (linkWord rows row last) n) (rows + 4 * j + p) 0 ≡ getD ws (rows + 4 * j + p) 0
+  back-part j p h = other ws (linkWord rows row last) (rows + 4 * j + p) _ (link-part rows row hrow j p h last)
+
+  back-next : (i : ℕ) → nextIn (getD (withBack ws (linkWord rows row last) n) i 0) ≡ nextIn (getD ws i 0)
+  back-next i = go (ℕ-discrete i (linkWord rows row last))
+    where
+      go : Dec (i ≡ linkWord rows row last) → nextIn (getD (withBack ws (linkWord rows row last) n) i 0) ≡ nextIn (getD ws i 0)
+      go (yes e) = rw e (ap nextIn (same ws (linkWord rows row last) _ fits) ∙ next-links (nextIn (getD ws (linkWord rows row last) 0)) n (omega arith))
+      go (no e) = ap nextIn (other ws (linkWord rows row last) i _ e)
+
+  pub held-back : Holds (withBack ws (linkWord rows row last) n) rows width count log
+  held-back = record {
+    pool =
+        same-pool (λ j. rw add-zero at (back-part j 0 (omega arith))) (λ j. back-part j 1 (omega arith)) (λ j. back-part j 2 (omega arith))
+        (λ r l. back-next (linkWord rows r l)) (P .pool);
+  }
+
+-- ---- a deposit
 
 module _ (ws : List ℕ) (rows width count : ℕ) (log : List Deposit) (P : Holds ws rows width count log) (fits : rows + 4 * count ≤ length ws) where
   -- a deposit to a cell's place
@@ -101,8 +133,8 @@ module _ (ws : List ℕ) (rows width count : ℕ) (log : List Deposit) (P : Hold
       ws′ = withPair ws at (d .cover) (d .area)
 
       same-link : (r l : ℕ) → r < rows → linkAt ws′ rows r l ≡ linkAt ws rows r l
-      same-link r zero hr = pair-else ws at (d .cover) (d .area) r (omega arith) (omega arith)
-      same-link r (suc j) hr = pair-else ws at (d .cover) (d .area) (rows + 4 * j + 3) (omega arith) (omega arith)
+      same-link r zero hr = ap nextIn (pair-else ws at (d .cover) (d .area) r (omega arith) (omega arith))
+      same-link r (suc j) hr = ap nextIn (pair-else ws at (d .cover) (d .area) (rows + 4 * j + 3) (omega arith) (omega arith))
 
   named-le : (row n : ℕ) → Named (placeAt ws rows) count row n → n ≤ count
   named-le row zero m = omega arith
@@ -112,18 +144,21 @@ module _ (ws : List ℕ) (rows width count : ℕ) (log : List Deposit) (P : Hold
   module _ (d : Deposit) (row last : ℕ) (hrow : row < rows) (o : Named (placeAt ws rows) count row last) (is-row : d .place / perRow ≡ row)
       (column : d .place % perRow ≤ width) (from : low (placeAt ws rows) row last ≤ d .place)
       (to : d .place < high (placeAt ws rows) row (linkAt ws rows row last))
-      (hc : d .cover < 2 ^ 32) (ha : d .area < 2 ^ 32) (more : rows + 4 * count + 3 < length ws) where
+      (hc : d .cover < 2 ^ 32) (ha : d .area < 2 ^ 32) (more : rows + 4 * count + 3 < length ws) (few : count + 1 < half) where
     at : ℕ
     at = rows + 4 * count
 
     lw : ℕ
     lw = linkWord rows row last
 
+    next : ℕ
+    next = linkAt ws rows row last
+
     cell : List ℕ
-    cell = withCell ws at (d .place) (d .cover) (d .area) (linkAt ws rows row last)
+    cell = withCell ws at (d .place) (d .cover) (d .area) (linksOf next last)
 
     ws′ : List ℕ
-    ws′ = set cell lw (count + 1)
+    ws′ = withNext cell lw (count + 1)
 
     lw-lt : lw < at
     unfolding lw at
@@ -133,12 +168,12 @@ module _ (ws : List ℕ) (rows width count : ℕ) (log : List Deposit) (P : Hold
     else-part : (j p : ℕ) → p < 3 → j < count → getD ws′ (rows + 4 * j + p) 0 ≡ getD ws (rows + 4 * j + p) 0
     unfolding ws′ cell lw at
     else-part j p h hj =
-        other cell lw (rows + 4 * j + p) (count + 1) (link-part rows row hrow j p h last)
-        ∙ cell-before ws at (d .place) (d .cover) (d .area) (linkAt ws rows row last) (rows + 4 * j + p) (omega arith)
+        other cell lw (rows + 4 * j + p) _ (link-part rows row hrow j p h last)
+        ∙ cell-before ws at (d .place) (d .cover) (d .area) (linksOf next last) (rows + 4 * j + p) (omega arith)
 
     new-part : (p v : ℕ) → getD cell (at + p) 0 ≡ v → getD ws′ (at + p) 0 ≡ v
     unfolding ws′
-    new-part p v e = other cell lw (at + p) (count + 1) (omega (arith, lw-lt)) ∙ e
+    new-part p v e = other cell lw (at + p) _ (omega (arith, lw-lt)) ∙ e
 
     -- another link's word
     word-apart : (r l : ℕ) → r < rows → Named (placeAt ws rows) count r l → ((r ≡ row) × (l ≡ last) → ⊥) → linkWord rows r l ≡ lw → ⊥
@@ -157,26 +192,46 @@ module _ (ws : List ℕ) (rows width count : ℕ) (log : List Deposit) (P : Hold
     else-link : (r l : ℕ) → r < rows → Named (placeAt ws rows) count r l → ((r ≡ row) × (l ≡ last) → ⊥) → linkAt ws′ rows r l ≡ linkAt ws rows r l
     unfolding ws′ cell at
     else-link r l hr m ne =
-        other cell lw (linkWord rows r l) (count + 1) (word-apart r l hr m ne)
-        ∙ cell-before ws at (d .place) (d .cover) (d .area) (linkAt ws rows row last) (linkWord rows r l) (link-word-lt rows r count l hr (named-le r l m))
+        ap nextIn
+        (other cell lw (linkWord rows r l) _ (word-apart r l hr m ne)
+        ∙ cell-before ws at (d .place) (d .cover) (d .area) (linksOf next last) (linkWord rows r l) (link-word-lt rows r count l hr (named-le r l m)))
 
     length-cell : length cell ≡ length ws
     unfolding cell
     length-cell = simp length-set
 
-    pub held-anew : Holds (set (withCell ws (rows + 4 * count) (d .place) (d .cover) (d .area) (linkAt ws rows row last)) (linkWord rows row last) (count + 1)) rows width (suc count) (log ++ (d ∷ []))
-    unfolding ws′ cell lw at
+    held-anew : Holds ws′ rows width (suc count) (log ++ (d ∷ []))
+    unfolding ws′ cell next lw at
     held-anew = record {
       pool =
           anew (placeAt ws rows) (word ws rows 1) (word ws rows 2) (linkAt ws rows) rows width count log (P .pool) d row last hrow o is-row column from to hc ha
           (placeAt ws′ rows) (word ws′ rows 1) (word ws′ rows 2) (linkAt ws′ rows)
           (λ j h. rw add-zero at (else-part j 0 (omega arith) h))
-          (rw add-zero at (new-part 0 (d .place) (rw add-zero (cell-place ws at (d .place) (d .cover) (d .area) (linkAt ws rows row last) more))))
+          (rw add-zero at (new-part 0 (d .place) (rw add-zero (cell-place ws at (d .place) (d .cover) (d .area) (linksOf next last) more))))
           (λ j h. else-part j 1 (omega arith) h)
-          (new-part 1 (d .cover) (cell-cover ws at (d .place) (d .cover) (d .area) (linkAt ws rows row last) more))
+          (new-part 1 (d .cover) (cell-cover ws at (d .place) (d .cover) (d .area) (linksOf next last) more))
           (λ j h. else-part j 2 (omega arith) h)
-          (new-part 2 (d .area) (cell-area ws at (d .place) (d .cover) (d .area) (linkAt ws rows row last) more))
+          (new-part 2 (d .area) (cell-area ws at (d .place) (d .cover) (d .area) (linksOf next last) more))
           else-link
-          (same cell lw (count + 1) (omega (arith, lw-lt, length-cell)) ∙ add-one count)
-          (λ r. new-part 3 (linkAt ws rows row last) (cell-next ws at (d .place) (d .cover) (d .area) (linkAt ws rows row last) more));
+          (ap nextIn (same cell lw _ (omega (arith, lw-lt, length-cell))) ∙ next-links (count + 1) (backIn (getD cell lw 0)) few ∙ add-one count)
+          (λ r. ap nextIn (new-part 3 (linksOf next last) (cell-links ws at (d .place) (d .cover) (d .area) (linksOf next last) more)) ∙ next-links next last (omega arith));
     }
+
+    -- with the two links back
+    pub held-new : Holds (withNew ws rows count row last (d .place) (d .cover) (d .area)) rows width (suc count) (log ++ (d ∷ []))
+    unfolding ws′ cell next lw at
+    held-new =
+        rw (le-ltb count (linkAt ws rows row last) near)
+        (held-back led rows width (suc count) (log ++ (d ∷ [])) one row (linkAt ws rows row last) (count + 1) hrow (omega (arith, link-word-lt rows row count (linkAt ws rows row last) hrow near, length-led)))
+      where
+        near : linkAt ws rows row last ≤ count
+        near = named-le row (linkAt ws rows row last) (P .pool .links row last hrow o .named)
+
+        led : List ℕ
+        led = withLed ws rows count row last (d .place) (d .cover) (d .area)
+
+        one : Holds led rows width (suc count) (log ++ (d ∷ []))
+        one = held-back ws′ rows width (suc count) (log ++ (d ∷ [])) held-anew row 0 (count + 1) hrow (simp length-set (omega arith))
+
+        length-led : length led ≡ length ws
+        length-led = simp length-set

@@ -10,7 +10,7 @@ use Rattle.storage.specs.declared.Kept.{Kept}
 use Rattle.storage.specs.declared.Kept.the-variants.{Cells, Full}
 use Rattle.storage.specs.Deposits.{perRow, Deposit, given, known, distinct}
 use Rattle.storage.specs.Laws.{distinct-mono}
-use Rattle.storage.specs.Cells.{Named, low, high, Link, placeAt, word, linkAt, Holds, columns, Rising}
+use Rattle.storage.specs.Cells.{Named, low, high, Link, nextIn, placeAt, word, linkAt, Holds, columns, Rising}
 use Rattle.storage.specs.Answers.{Room, Within, keptOf, Stored, Storing, Deposited}
 use Rattle.storage.proofs.Sums.{distinct-again}
 
@@ -115,7 +115,7 @@ module _ {ws : List ℕ} {rows width count : ℕ} {log : List Deposit} (P : Hold
   rising-from (suc fuel) lo zero m a = tt
   rising-from (suc fuel) lo (suc k) m a =
       let l = P .pool .links row (suc k) h m in
-      (omega arith, rising-from fuel (placeAt ws rows k % perRow + 1) (word ws rows 3 k) (l .named) (omega (arith, l .above)))
+      (omega arith, rising-from fuel (placeAt ws rows k % perRow + 1) (nextIn (word ws rows 3 k)) (l .named) (omega (arith, l .above)))
 
   pub rising : (fuel : ℕ) → Rising 0 (columns ws rows fuel (linkAt ws rows row 0))
   rising fuel = let l = P .pool .links row 0 h tt in rising-from fuel 0 (linkAt ws rows row 0) (l .named) (omega (arith, l .above))

@@ -1,14 +1,36 @@
--- Laws of lists of words: all of them filled, and where a link stands.
+-- Laws of words: all of them filled, the two halves of a word of links, and where it stands.
 use mathlib.Core.Path.{_≡_, refl}
 use mathlib.Core.List.{List, _++_, append-nil}
-use Prim.Native.Nat.{ℕ, zero, suc, _+_, _-_, _*_, _≤_, _<_}
+use Prim.Native.Nat.{ℕ, zero, suc, _+_, _-_, _*_, _^_, _≤_, _<_}
 use native.Mathlib.Omega.{arith}
 use lib.ListN.{length, drop, replicate}
 use lib.Seq.{drop-length}
-use Rattle.storage.specs.Cells.{linkWord}
+use Rattle.storage.specs.Cells.{half, nextIn, backIn, linksOf, linkWord}
+use Rattle.storage.specs.Answers.{mostCells}
 
 pub fill-all : (d : List ℕ) (v : ℕ) → replicate (length d) v ++ drop (length d) d ≡ replicate (length d) v
 fill-all d v = simp (drop-length, append-nil)
+
+-- ---- the halves of a word of links
+
+pub next-links : (next back : ℕ) → next < half → nextIn (linksOf next back) ≡ next
+next-links next back h = omega arith
+
+pub back-links : (next back : ℕ) → next < half → backIn (linksOf next back) ≡ back
+back-links next back h = omega arith
+
+-- two links fit a word, and a word has two
+pub links-fit : (next back : ℕ) → next < half → back < half → linksOf next back < 2 ^ 32
+links-fit next back h g = omega arith
+
+pub halves-fit : (w : ℕ) → w < 2 ^ 32 → (nextIn w < half) × (backIn w < half)
+halves-fit w h = (omega arith, omega arith)
+
+-- the link to any cell of the largest pool fits a half
+pub link-fits : (n : ℕ) → n ≤ mostCells → n < half
+link-fits n h = omega arith
+
+-- ---- where a word of links stands
 
 pub link-word-is : (rows row n : ℕ) → (n ≡ 0 → ⊥) → rows + 4 * (n - 1) + 3 ≡ linkWord rows row n
 link-word-is rows row zero h = absurd (h refl)

@@ -1,12 +1,10 @@
--- What the answers of `seek` and `store` say.
+-- What the answers of the walks and of `store` say.
 use mathlib.Core.Path.{_≡_}
-use mathlib.Core.Bool.{cond}
+use mathlib.Core.Bool.{Bool, false, cond}
 use mathlib.Core.List.{List, [], _∷_, _++_}
-use Prim.Native.Nat.{ℕ, _+_, _*_, _≤_, _<_}
-use lib.Dec.{leb}
+use Prim.Native.Nat.{ℕ, zero, suc, _+_, _*_, _≤_, _<_}
+use lib.Dec.{eqb, leb}
 use lib.ListN.{length}
-use Rattle.storage.specs.declared.Spot.{Spot}
-use Rattle.storage.specs.declared.Spot.the-variants.{Here, Gap, Broken}
 use Rattle.storage.specs.declared.Kept.{Kept}
 use Rattle.storage.specs.declared.Kept.the-variants.{Cells, Full}
 use Rattle.storage.specs.Deposits.{Deposit, given, distinct}
@@ -26,21 +24,22 @@ pub record Room (words : List ℕ) (rows cap count : ℕ) : Type 0 where
   pub few-rows : rows ≤ mostRows
   pub few-cells : cap ≤ mostCells
 
--- ---- seek
+-- ---- the two walks along a row's list
 
--- the place goes behind last and before next
-pub record Between (ws : List ℕ) (rows count row place last next : ℕ) : Type 0 where
-  pub owned : Named (placeAt ws rows) count row last
-  pub linked : linkAt ws rows row last ≡ next
-  pub from : low (placeAt ws rows) row last ≤ place
-  pub to : place < high (placeAt ws rows) row next
+-- the walk to a place may start behind n: n is 0, the row's start, or a cell of the row that is not past the place
+abbrev pub Upto : (ℕ → ℕ) → ℕ → ℕ → ℕ → ℕ → Type 0
+Upto place count row p n = Named place count row n × (low place row n ≤ p + 1)
 
-abbrev pub Sought : List ℕ → ℕ → ℕ → ℕ → ℕ → Spot → Type 0
-Sought ws rows count row place (Here k) = (k < count) × (placeAt ws rows k ≡ place)
-Sought ws rows count row place (Gap last next) =
-    (last ≤ count) × (next ≤ count)
-    × ((width : ℕ) (log : List Deposit) → Holds ws rows width count log → Between ws rows count row place last next)
-Sought ws rows count row place Broken = (width : ℕ) (log : List Deposit) → Holds ws rows width count log → ⊥
+-- the walk ends behind last: in a pool this is the row's last cell that is not past the place
+pub record Sought (ws : List ℕ) (rows count row place last : ℕ) : Type 0 where
+  pub within : last ≤ count
+  pub so : (width : ℕ) (log : List Deposit) → Holds ws rows width count log
+      → Upto (placeAt ws rows) count row place last × (place < high (placeAt ws rows) row (linkAt ws rows row last))
+
+-- whether a link names the cell of a place
+abbrev pub isAt : List ℕ → ℕ → ℕ → ℕ → Bool
+isAt ws rows place zero = false
+isAt ws rows place (suc k) = eqb (placeAt ws rows k) place
 
 -- ---- store
 

@@ -1,10 +1,10 @@
--- When a workspace holds a list of deposits: rows heads, then four words a cell, its place, its cover, its area and the next cell's number.
+-- When a workspace holds a list of deposits: a word of links for each row, then four words a cell, its place, its cover, its area and its links.
 -- A link is a number: 0, or one more than a cell's index.
 use mathlib.Core.Path.{_≡_}
-use mathlib.Core.Bool.{true, false}
+use mathlib.Core.Bool.{true, false, cond}
 use mathlib.Core.List.{List, [], _∷_}
 use Prim.Native.Nat.{ℕ, zero, suc, _+_, _*_, _/_, _%_, _^_, _≤_, _<_}
-use lib.Dec.{eqb}
+use lib.Dec.{eqb, ltb}
 use lib.ListN.{getD, set}
 use Rattle.storage.specs.Deposits.{perRow, Deposit, known, distinct, sumOf, coverOf, areaOf}
 
@@ -46,6 +46,21 @@ pub record Pool (place cover area : ℕ → ℕ) (link : ℕ → ℕ → ℕ) (r
   pub apart : (j k : ℕ) → j < count → k < count → place j ≡ place k → j ≡ k
   pub counted : count ≡ distinct log
 
+-- ---- a word of links
+
+-- it holds two, of 16 bits each: one on to the next cell in its low half, one back in its high half
+abbrev pub half : ℕ
+half = 65536
+
+abbrev pub nextIn : ℕ → ℕ
+nextIn w = w % half
+
+abbrev pub backIn : ℕ → ℕ
+backIn w = w / half
+
+abbrev pub linksOf : ℕ → ℕ → ℕ
+linksOf next back = next + half * back
+
 -- ---- the same, of words
 
 abbrev pub placeAt : List ℕ → ℕ → ℕ → ℕ
@@ -55,19 +70,19 @@ placeAt ws rows k = getD ws (rows + 4 * k) 0
 abbrev pub word : List ℕ → ℕ → ℕ → ℕ → ℕ
 word ws rows part k = getD ws (rows + 4 * k + part) 0
 
--- where the link behind n stands: the row's head for 0
+-- where the links behind n stand: the row's word for 0
 abbrev pub linkWord : ℕ → ℕ → ℕ → ℕ
 linkWord rows row zero = row
 linkWord rows row (suc k) = rows + 4 * k + 3
 
 abbrev pub linkAt : List ℕ → ℕ → ℕ → ℕ → ℕ
-linkAt ws rows row last = getD ws (linkWord rows row last) 0
+linkAt ws rows row last = nextIn (getD ws (linkWord rows row last) 0)
 
--- the first count cells of the words hold the log
+-- the first count cells of the words hold the log; what the links back are is not said, since nothing but time turns on them
 pub record Holds (ws : List ℕ) (rows width count : ℕ) (log : List Deposit) : Type 0 where
   pub pool : Pool (placeAt ws rows) (word ws rows 1) (word ws rows 2) (linkAt ws rows) rows width count log
 
--- ---- the two ways in which a deposit changes the words
+-- ---- the ways in which a deposit changes the words
 abbrev pub withSum : List ℕ → ℕ → ℕ → List ℕ
 withSum ws at x = set ws at ((getD ws at 0 + x) % 2 ^ 32)
 
@@ -75,7 +90,27 @@ abbrev pub withPair : List ℕ → ℕ → ℕ → ℕ → List ℕ
 withPair ws at cover area = withSum (withSum ws (at + 1) cover) (at + 2) area
 
 abbrev pub withCell : List ℕ → ℕ → ℕ → ℕ → ℕ → ℕ → List ℕ
-withCell ws at place cover area next = set (set (set (set ws at place) (at + 1) cover) (at + 2) area) (at + 3) next
+withCell ws at place cover area links = set (set (set (set ws at place) (at + 1) cover) (at + 2) area) (at + 3) links
+
+-- one half of a word of links
+abbrev pub withNext : List ℕ → ℕ → ℕ → List ℕ
+withNext ws at n = set ws at (linksOf n (backIn (getD ws at 0)))
+
+abbrev pub withBack : List ℕ → ℕ → ℕ → List ℕ
+withBack ws at n = set ws at (linksOf (nextIn (getD ws at 0)) n)
+
+-- a new cell behind last and before next: last's link leads on to it, the row's back to it
+abbrev pub withLed : List ℕ → ℕ → ℕ → ℕ → ℕ → ℕ → ℕ → ℕ → List ℕ
+withLed ws rows count row last place cover area =
+    let cell = withCell ws (rows + 4 * count) place cover area (linksOf (linkAt ws rows row last) last) in
+    withBack (withNext cell (linkWord rows row last) (count + 1)) row (count + 1)
+
+-- and next's back to it, if next is a cell's or 0
+abbrev pub withNew : List ℕ → ℕ → ℕ → ℕ → ℕ → ℕ → ℕ → ℕ → List ℕ
+withNew ws rows count row last place cover area =
+    let led = withLed ws rows count row last place cover area in
+    let next = linkAt ws rows row last in
+    cond (ltb count next) led (withBack led (linkWord rows row next) (count + 1))
 
 -- ---- a row's list
 
@@ -83,7 +118,7 @@ withCell ws at place cover area next = set (set (set (set ws at place) (at + 1) 
 unfoldable pub columns : List ℕ → ℕ → ℕ → ℕ → List ℕ
 columns ws rows zero n = []
 columns ws rows (suc fuel) zero = []
-columns ws rows (suc fuel) (suc k) = placeAt ws rows k % perRow ∷ columns ws rows fuel (word ws rows 3 k)
+columns ws rows (suc fuel) (suc k) = placeAt ws rows k % perRow ∷ columns ws rows fuel (nextIn (word ws rows 3 k))
 
 -- each number is at least lo, and above those before it
 unfoldable pub Rising : ℕ → List ℕ → Type 0

@@ -1,16 +1,22 @@
-// The pool of cells in a lent workspace, `HeapStorage` of the Rust: rows heads, then four words a cell, its place, cover, area and next cell.
-// A link is 0, or one more than a cell's index. A place is PER_ROW times the row, plus the column counted from 0 for column -1.
+// The pool of cells in a lent workspace, `HeapStorage` of the Rust: a word of links for each row, then four words a cell, its place, cover, area and links.
+// A link is 0, or one more than a cell's index. A word of links holds two. The next one leads on along the row's list, in rising place: from the row's word to
+// the first cell, from a cell to the one behind it. The one back leads from the row's word to the cell stored into last, from a cell to the one before it: it
+// saves a walk from the row's start, and no answer turns on it.
+// A place is PER_ROW times the row, plus the column counted from 0 for column -1.
 // Each function stays inside the words it is lent and ends, whatever they hold.
 ghost use mathlib.Core.Path.{_≡_};
 ghost use mathlib.Core.List.{_++_};
 ghost use Prim.Native.Nat.{_+_, _*_, _/_, _%_, _^_, _≤_, _<_};
 ghost use lib.ListN.{length, getD, drop, replicate};
 ghost use Rattle.storage.specs.Deposits.{perRow};
-ghost use Rattle.storage.specs.Cells.{linkWord, withSum, withPair, withCell};
-ghost use Rattle.storage.specs.Answers.{Room, Sought, Storing};
+ghost use Rattle.storage.specs.Cells.{placeAt, half, nextIn, backIn, linksOf, linkWord, withSum, withPair, withCell, withNext, withBack, withNew};
+ghost use Rattle.storage.specs.Answers.{Room, Upto, Sought, isAt, Storing};
 
 // The places of a row, more than it has columns.
 pub const PER_ROW: usize = 8192;
+
+// A word of links has its next one below this, and its one back in multiples of it.
+const HALF: usize = 65536;
 
 // Zero in the first n words; the rest as it was.
 pub fn clear(ws: &mut [u32], n: usize)
@@ -46,49 +52,113 @@ pub fn word(ws: &[u32], i: usize) -> usize
     wide(ws[i])
 }
 
-// Where a place belongs in its row's list.
-enum Spot {
-    // The cell of this index has it.
-    Here(usize),
-    // No cell has it: it goes behind the first and before the second, each a link.
-    Gap(usize, usize),
-    // The words are no pool's.
-    Broken,
+// The link on in a word of links.
+pub fn next_in(w: u32) -> usize
+    ensures { λ r. ⌜ r ≡ nextIn w ⌝ }
+{
+    wide(w) % HALF
 }
 
-// Walks the row's list. `low` rises at each step, so that the walk ends on any words.
-fn seek(ws: &[u32], rows: usize, count: usize, row: usize, place: usize) -> Spot
+// The link back.
+fn back_in(w: u32) -> usize
+    ensures { λ r. ⌜ (r ≡ backIn w) × (r < half) ⌝ }
+{
+    wide(w) / HALF
+}
+
+// A word of two links.
+fn links(next: usize, back: usize) -> u32
+    requires { ⌜ (next < half) × (back < half) ⌝ }
+    ensures { λ r. ⌜ r ≡ linksOf next back ⌝ }
+{
+    (next + HALF * back) as u32
+}
+
+fn set_next(ws: &mut [u32], at: usize, n: usize)
+    requires { ⌜ (at < length (now ws)) × (n < half) ⌝ }
+    ensures { λ _. ⌜ now (ws .exit) ≡ withNext (now (ws .entry)) at n ⌝ }
+{
+    ws[at] = links(n, back_in(ws[at]));
+}
+
+fn set_back(ws: &mut [u32], at: usize, n: usize)
+    requires { ⌜ (at < length (now ws)) × (n < half) ⌝ }
+    ensures { λ _. ⌜ now (ws .exit) ≡ withBack (now (ws .entry)) at n ⌝ }
+{
+    ws[at] = links(next_in(ws[at]), n);
+}
+
+// Walks back from the cell stored into last to one that is not past the place; answers 0, the row's start, where it meets none.
+// `high` falls at each step, so that the walk ends on any words.
+fn walk_back(ws: &[u32], rows: usize, count: usize, row: usize, place: usize) -> usize
     requires { ⌜ (row < rows) × (rows + 4 * count ≤ length (now ws)) × (place / perRow ≡ row) ⌝ }
+    ensures { λ r. ⌜ Upto (placeAt (now (ws .entry)) rows) count row place r ⌝ }
+{
+    let mut high: usize = 0x1_0000_0000;
+    let mut link = back_in(ws[row]);
+    while link != 0 {
+        if count < link {
+            return 0;
+        }
+        let at = rows + 4 * (link - 1);
+        let here = word(ws, at);
+        if high <= here {
+            return 0;
+        }
+        if here <= place {
+            if here < PER_ROW * row {
+                return 0;
+            }
+            return link;
+        }
+        high = here;
+        link = back_in(ws[at + 3]);
+    }
+    0
+}
+
+// Walks on to the row's last cell that is not past the place. `low` rises at each step, so that the walk ends on any words.
+fn walk_on(ws: &[u32], rows: usize, count: usize, row: usize, place: usize, from: usize) -> usize
+    requires { ⌜ (row < rows) × (rows + 4 * count ≤ length (now ws)) × (place / perRow ≡ row) × (place < 2 ^ 32) × Upto (placeAt (now ws) rows) count row place from ⌝ }
     ensures { λ r. ⌜ Sought (now (ws .entry)) rows count row place r ⌝ }
 {
-    let mut last: usize = 0;
+    let mut last = from;
     let mut low: usize = 0;
-    let mut next = word(ws, row);
+    let at = link_word(rows, row, from);
+    let mut next = next_in(ws[at]);
     while next != 0 {
         if count < next {
-            return Spot::Broken;
+            return last;
         }
         let at = rows + 4 * (next - 1);
         let here = word(ws, at);
-        if here == place {
-            return Spot::Here(next - 1);
+        if here < low {
+            return last;
         }
         if place < here {
-            return Spot::Gap(last, next);
-        }
-        if here < low {
-            return Spot::Broken;
+            return last;
         }
         low = here + 1;
         last = next;
-        next = word(ws, at + 3);
+        next = next_in(ws[at + 3]);
     }
-    Spot::Gap(last, 0)
+    last
 }
 
-// Where the link behind a cell stands; the row's head for 0.
+// Whether a link names the cell of a place.
+fn is_at(ws: &[u32], rows: usize, place: usize, link: usize) -> bool
+    requires { ⌜ rows + 4 * link ≤ length (now ws) ⌝ }
+    ensures { λ r. ⌜ «r» ≡ isAt (now (ws .entry)) rows place link ⌝ }
+{
+    if link == 0 {
+        return false;
+    }
+    word(ws, rows + 4 * (link - 1)) == place
+}
+
+// Where the links behind a cell stand; the row's word for 0.
 fn link_word(rows: usize, row: usize, last: usize) -> usize
-    requires { ⌜ (rows < 2 ^ 32) × (last < 2 ^ 32) ⌝ }
+    requires { ⌜ rows + 4 * last < 2 ^ 64 ⌝ }
     ensures { λ r. ⌜ r ≡ linkWord rows row last ⌝ }
 {
     if last == 0 {
@@ -122,14 +192,14 @@ fn add_pair(ws: &mut [u32], at: usize, cover: u32, area: u32)
 }
 
 // Writes a cell's four words.
-fn put_cell(ws: &mut [u32], at: usize, place: u32, cover: u32, area: u32, next: u32)
+fn put_cell(ws: &mut [u32], at: usize, place: u32, cover: u32, area: u32, links: u32)
     requires { ⌜ at + 3 < length (now ws) ⌝ }
-    ensures { λ _. ⌜ now (ws .exit) ≡ withCell (now (ws .entry)) at place cover area next ⌝ }
+    ensures { λ _. ⌜ now (ws .exit) ≡ withCell (now (ws .entry)) at place cover area links ⌝ }
 {
     ws[at] = place;
     ws[at + 1] = cover;
     ws[at + 2] = area;
-    ws[at + 3] = next;
+    ws[at + 3] = links;
 }
 
 pub enum Kept {
@@ -139,7 +209,32 @@ pub enum Kept {
     Full,
 }
 
-// Stores a pair: a sum with its place's, or in a new cell.
+// Puts a new cell behind last and before the cell that followed it: the links of both lead to it, and so does the row's link back.
+fn insert(
+    ws: &mut [u32],
+    rows: usize,
+    count: usize,
+    row: usize,
+    last: usize,
+    place: u32,
+    cover: u32,
+    area: u32,
+)
+    requires { ⌜ (row < rows) × (rows + 4 * count + 3 < length (now ws)) × (last ≤ count) × (count + 1 < half) ⌝ }
+    ensures { λ _. ⌜ now (ws .exit) ≡ withNew (now (ws .entry)) rows count row last place cover area ⌝ }
+{
+    let behind = link_word(rows, row, last);
+    let next = next_in(ws[behind]);
+    put_cell(ws, rows + 4 * count, place, cover, area, links(next, last));
+    set_next(ws, behind, count + 1);
+    set_back(ws, row, count + 1);
+    if count < next {
+        return;
+    }
+    set_back(ws, link_word(rows, row, next), count + 1);
+}
+
+// Stores a pair: the row's last cell that is not past the pair's place adds it, if the place is its own, and is followed by a new cell of that place if not.
 pub fn store(
     ws: &mut [u32],
     rows: usize,
@@ -154,21 +249,16 @@ pub fn store(
     ensures { λ r. ⌜ Storing (now (ws .entry)) (now (ws .exit)) rows cap count row column cover area r ⌝ }
 {
     let place = PER_ROW * row + column;
-    let spot = seek(ws, rows, count, row, place);
-    match spot {
-        Spot::Here(k) => {
-            add_pair(ws, rows + 4 * k, cover, area);
-            Kept::Cells(count)
-        }
-        Spot::Gap(last, next) => {
-            if cap <= count {
-                return Kept::Full;
-            }
-            put_cell(ws, rows + 4 * count, place as u32, cover, area, next as u32);
-            let at = link_word(rows, row, last);
-            ws[at] = (count + 1) as u32;
-            Kept::Cells(count + 1)
-        }
-        Spot::Broken => Kept::Full,
+    let from = walk_back(ws, rows, count, row, place);
+    let last = walk_on(ws, rows, count, row, place, from);
+    if is_at(ws, rows, place, last) {
+        add_pair(ws, rows + 4 * (last - 1), cover, area);
+        set_back(ws, row, last);
+        return Kept::Cells(count);
     }
+    if cap <= count {
+        return Kept::Full;
+    }
+    insert(ws, rows, count, row, last, place as u32, cover, area);
+    Kept::Cells(count + 1)
 }

@@ -10,7 +10,7 @@ use native.Mathlib.Decide.{decLt, ℕ-discrete}
 use lib.Dec.{eqb}
 use lib.ListN.{length, getD}
 use Rattle.storage.specs.Deposits.{perRow, Deposit, known, sumOf, coverOf, areaOf}
-use Rattle.storage.specs.Cells.{Named, low, high, Link, Cell, placeAt, word, Holds}
+use Rattle.storage.specs.Cells.{Named, low, high, Link, Cell, nextIn, placeAt, word, Holds}
 use Rattle.sweep.specs.declared.Fill.{Fill}
 use Rattle.sweep.specs.Pixels.{signed, byteOf, coverUpTo, pixel}
 use Rattle.sweep.specs.Rows.{Painted, CellSwept}
@@ -54,7 +54,7 @@ pub record Sweep (ws d d′ : List ℕ) (rows count row width : ℕ) (fill : Fil
   pub so : (log : List Deposit) → Holds ws rows width count log → Reached ws d′ rows count row fill log at cover next
 
 module _ {ws d : List ℕ} {rows count row width : ℕ} {fill : Fill} (hrow : row < rows) where
-  pub begin : Sweep ws d d rows count row width fill 0 0 (getD ws row 0)
+  pub begin : Sweep ws d d rows count row width fill 0 0 (nextIn (getD ws row 0))
   begin = record {
     top = omega arith;
     long = refl;
@@ -127,12 +127,12 @@ module _ {ws d : List ℕ} {rows count row width : ℕ} {fill : Fill} (hrow : ro
             (C .area-sum ∙ ap (λ (p : ℕ). sumOf areaOf (eqb p) log) (sym e ∙ q))
             refl
 
-        next-link : {after : ℕ} → after ≡ getD ws (rows + 4 * (next - 1) + 3) 0 → Link (placeAt ws rows) count log row (here + 1) after
+        next-link : {after : ℕ} → after ≡ nextIn (getD ws (rows + 4 * (next - 1) + 3) 0) → Link (placeAt ws rows) count log row (here + 1) after
         next-link f = rw (f, link-of ws rows row next ne, here-is, ← low-of ws rows row next ne) (P .pool .links row next hrow (R .link .named))
 
       pub more : {d″ : List ℕ} {r after : ℕ} → perRow * row + at ≤ here → here - perRow * row ≤ width
           → CellSwept ws (rows + 4 * (next - 1)) d′ d″ at (here - perRow * row) cover fill r
-          → length d″ ≡ length d′ → after ≡ getD ws (rows + 4 * (next - 1) + 3) 0
+          → length d″ ≡ length d′ → after ≡ nextIn (getD ws (rows + 4 * (next - 1) + 3) 0)
           → Sweep ws d d″ rows count row width fill (here - perRow * row + 1) r after
       more {d″} {r} {after} from hw p len f = record {
         top = omega arith;

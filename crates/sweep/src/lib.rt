@@ -126,7 +126,7 @@ fn sweep_row(
     let start = storage::PER_ROW * row;
     let mut low: usize = 0;
     let mut cover: u32 = 0;
-    let mut next = storage::word(ws, row);
+    let mut next = storage::next_in(ws[row]);
     while next != 0 {
         if count < next {
             return;
@@ -142,7 +142,7 @@ fn sweep_row(
         }
         cover = sweep_cell(ws, at, low, column, cover, fill, out);
         low = column + 1;
-        next = storage::word(ws, at + 3);
+        next = storage::next_in(ws[at + 3]);
     }
     paint(out, low, width + 1, run_byte(fill, cover));
 }

@@ -15,11 +15,17 @@ abbrev μ-loop : tie.MeasureT-loop
 mul-start : tie.Need-mul-start Inv-loop μ-loop
 mul-start c = omega arith
 
-word-requires : tie.Need-word-requires Inv-loop μ-loop
-word-requires c κs = omega arith
+mul-next-in : tie.Need-mul-next-in Inv-loop μ-loop
+mul-next-in c = omega arith
+
+shared-slice-read-next-in : tie.Need-shared-slice-read-next-in Inv-loop μ-loop
+shared-slice-read-next-in c = omega arith
+
+next-in-requires : tie.Need-next-in-requires Inv-loop μ-loop
+next-in-requires c κs = tt
 
 loop-holds : tie.Need-loop-holds Inv-loop μ-loop
-loop-holds c = rw (c .word .ensures) (begin (c .before .before .before .pre .inside))
+loop-holds c = rw (c .next-in .ensures) (begin (c .before .before .before .before .pre .inside))
 
 same-length : tie.Need-same-length Inv-loop μ-loop
 same-length c = omega arith
@@ -27,7 +33,7 @@ same-length c = omega arith
 returns : tie.Need-returns Inv-loop μ-loop
 returns c =
     let l = c .before .before in
-    let st = l .before .before .before .before in
+    let st = l .before .before .before .before .before in
     record { painted = λ log P x h. absurd (far (st .pre .inside) (l .loop .inv) (c .if1 .taken) log P); kept = l .loop .inv .behind }
 
 sub-at : tie.Need-sub-at Inv-loop μ-loop
@@ -39,8 +45,8 @@ mul-at c = omega arith
 add-at : tie.Need-add-at Inv-loop μ-loop
 add-at c = omega arith
 
-word-requires-2 : tie.Need-word-requires-2 Inv-loop μ-loop
-word-requires-2 c κs = omega arith
+word-requires : tie.Need-word-requires Inv-loop μ-loop
+word-requires c κs = omega arith
 
 add-if2 : tie.Need-add-if2 Inv-loop μ-loop
 add-if2 c = omega arith
@@ -52,8 +58,8 @@ returns-2 : tie.Need-returns-2 Inv-loop μ-loop
 returns-2 c =
     let n = c .before in
     let l = n .before .before .before in
-    let st = l .before .before .before .before in
-    record { painted = λ log P x h. absurd (back (st .pre .inside) (l .loop .inv) (n .before .before .loop-test .taken) (n .word2 .ensures) (c .if2 .taken) log P); kept = l .loop .inv .behind }
+    let st = l .before .before .before .before .before in
+    record { painted = λ log P x h. absurd (back (st .pre .inside) (l .loop .inv) (n .before .before .loop-test .taken) (n .word .ensures) (c .if2 .taken) log P); kept = l .loop .inv .behind }
 
 sub-column : tie.Need-sub-column Inv-loop μ-loop
 sub-column c = omega arith
@@ -65,8 +71,8 @@ returns-3 : tie.Need-returns-3 Inv-loop μ-loop
 returns-3 c =
     let n = c .before .before in
     let l = n .before .before .before in
-    let st = l .before .before .before .before in
-    record { painted = λ log P x h. absurd (outside (st .pre .inside) (l .loop .inv) (n .before .before .loop-test .taken) (n .word2 .ensures) (c .if3 .taken) log P); kept = l .loop .inv .behind }
+    let st = l .before .before .before .before .before in
+    record { painted = λ log P x h. absurd (outside (st .pre .inside) (l .loop .inv) (n .before .before .loop-test .taken) (n .word .ensures) (c .if3 .taken) log P); kept = l .loop .inv .behind }
 
 sweep-cell-requires : tie.Need-sweep-cell-requires Inv-loop μ-loop
 sweep-cell-requires c κs = omega arith
@@ -74,24 +80,30 @@ sweep-cell-requires c κs = omega arith
 add-low : tie.Need-add-low Inv-loop μ-loop
 add-low c = omega arith
 
-add-word : tie.Need-add-word Inv-loop μ-loop
-add-word c = omega arith
+add-next-in : tie.Need-add-next-in Inv-loop μ-loop
+add-next-in c = omega arith
 
-word-requires-3 : tie.Need-word-requires-3 Inv-loop μ-loop
-word-requires-3 c κs = omega arith
+mul-next-in-2 : tie.Need-mul-next-in-2 Inv-loop μ-loop
+mul-next-in-2 c = omega arith
+
+shared-slice-read-next-in-2 : tie.Need-shared-slice-read-next-in-2 Inv-loop μ-loop
+shared-slice-read-next-in-2 c = omega arith
+
+next-in-requires-2 : tie.Need-next-in-requires-2 Inv-loop μ-loop
+next-in-requires-2 c κs = tt
 
 loop-less : tie.Need-loop-less Inv-loop μ-loop
 loop-less c = omega arith
 
 loop-again : tie.Need-loop-again Inv-loop μ-loop
 loop-again c =
-    let w = c .before .before .before in
+    let w = c .before .before .before .before in
     let n = w .before .before .before .before in
     let l = n .before .before .before in
-    let st = l .before .before .before .before in
-    more (st .pre .inside) (l .loop .inv) (n .before .before .loop-test .taken) (n .word2 .ensures)
+    let st = l .before .before .before .before .before in
+    more (st .pre .inside) (l .loop .inv) (n .before .before .loop-test .taken) (n .word .ensures)
     (w .before .before .before .if2 .left) (w .before .before .if3 .left)
-    (w .sweep-cell .ensures) (omega (arith, w .sweep-cell .kept)) (c .word3 .ensures)
+    (w .sweep-cell .ensures) (omega (arith, w .sweep-cell .kept)) (c .next-in2 .ensures)
 
 add-paint : tie.Need-add-paint Inv-loop μ-loop
 add-paint c = omega arith
@@ -110,7 +122,7 @@ returns-4 c =
     let p = c .before .before in
     let a = p .before .before .before in
     let l = a .before in
-    let st = l .before .before .before .before in
+    let st = l .before .before .before .before .before in
     record {
       painted = finish (st .pre .inside) (l .loop .inv) (st .pre .narrow) (a .loop-test .left) (p .paint .ensures) (p .before .run-byte .ensures);
       kept = λ x h. p .paint .ensures .behind x (omega arith) ∙ l .loop .inv .behind x h;
@@ -123,14 +135,16 @@ sweep-row-spec =
     Inv-loop
     μ-loop
     mul-start
-    word-requires
+    mul-next-in
+    shared-slice-read-next-in
+    next-in-requires
     loop-holds
     same-length
     returns
     sub-at
     mul-at
     add-at
-    word-requires-2
+    word-requires
     add-if2
     same-length-2
     returns-2
@@ -139,8 +153,10 @@ sweep-row-spec =
     returns-3
     sweep-cell-requires
     add-low
-    add-word
-    word-requires-3
+    add-next-in
+    mul-next-in-2
+    shared-slice-read-next-in-2
+    next-in-requires-2
     loop-less
     loop-again
     add-paint
