@@ -1,5 +1,5 @@
-//! The cells of a drawing as they stand in the words of a workspace: a head for each row, then four
-//! words a cell: its place, cover, area, and a link to the next cell of its row.
+//! The cells of a drawing as they stand in the words of a workspace: a word of links for each row, then
+//! four words a cell: its place, cover, area and links. A link is 0 or one more than a cell's index.
 
 use crate::oracle::CellAt;
 
@@ -9,26 +9,28 @@ pub const PER_ROW: usize = 8192;
 /// Words of a cell.
 const CELL: usize = 4;
 
-/// Every cell, row by row along the links: heads and links are 0 or one more than a cell's index.
-/// Says what is wrong where the words are not the lists of `count` cells.
+/// A word of links holds two: one on in its low half, one back in its high half.
+const HALF: u32 = 65536;
+
+fn next_in(word: u32) -> usize {
+    (word % HALF) as usize
+}
+
+fn back_in(word: u32) -> usize {
+    (word / HALF) as usize
+}
+
+/// Every cell, row by row along the links on. Says what is wrong where the words are not the lists of
+/// `count` cells, and where a link back is not what makes storing quick; no answer turns on those.
 pub fn walked(words: &[u32], rows: usize, count: usize) -> Result<Vec<CellAt>, String> {
     if words.len() < rows + CELL * count {
         return Err(format!("{count} cells in {} words", words.len()));
     }
+    let (links, pool) = words.split_at(rows);
     let mut cells = Vec::with_capacity(count);
-    for row in 0..rows {
-        let mut link = words[row] as usize;
-        while link != 0 {
-            if link > count {
-                return Err(format!("row {row}: a link {link}, of {count} cells"));
-            }
-            if cells.len() == count {
-                return Err(format!("row {row}: more than {count} cells on the links"));
-            }
-            let at = rows + CELL * (link - 1);
-            cells.push(cell_at(&words[at..at + CELL], row)?);
-            link = words[at + 3] as usize;
-        }
+    for (row, &word) in links.iter().enumerate() {
+        let told = |what: String| format!("row {row}: {what}");
+        row_walked(word, row, &pool[..CELL * count], &mut cells).map_err(told)?;
     }
     if cells.len() < count {
         return Err(format!("{} of {count} cells on the links", cells.len()));
@@ -36,10 +38,43 @@ pub fn walked(words: &[u32], rows: usize, count: usize) -> Result<Vec<CellAt>, S
     Ok(cells)
 }
 
+/// The cells of the row with this word. A cell's link back must be to the one before it, the row's
+/// to one of its cells.
+fn row_walked(
+    word: u32,
+    row: usize,
+    pool: &[u32],
+    cells: &mut Vec<CellAt>,
+) -> Result<(), String> {
+    let count = pool.len() / CELL;
+    let (mut link, mut before) = (next_in(word), 0);
+    let mut is_back_met = back_in(word) == link;
+    while link != 0 {
+        if link > count {
+            return Err(format!("a link {link}, of {count} cells"));
+        }
+        if cells.len() == count {
+            return Err(format!("more than {count} cells on the links"));
+        }
+        let cell = &pool[CELL * (link - 1)..CELL * link];
+        cells.push(cell_at(cell, row)?);
+        let back = back_in(cell[3]);
+        if back != before {
+            return Err(format!("cell {link} leads back to {back}, not to {before}"));
+        }
+        is_back_met |= back_in(word) == link;
+        (link, before) = (next_in(cell[3]), link);
+    }
+    match is_back_met {
+        true => Ok(()),
+        false => Err(format!("leads back to {}, no cell of it", back_in(word))),
+    }
+}
+
 fn cell_at(cell: &[u32], row: usize) -> Result<CellAt, String> {
     let place = cell[0] as usize;
     if place / PER_ROW != row {
-        return Err(format!("row {row}: a cell of place {place}"));
+        return Err(format!("a cell of place {place}"));
     }
     Ok(CellAt {
         row: row as i32,
@@ -64,20 +99,24 @@ mod tests {
         }
     }
 
-    /// Lays cells out as `walked` reads them, in this order; they must be in row order.
+    /// Lays cells out as `walked` reads them, in this order; they must be in row order. The row's link
+    /// back is to its last cell.
     fn laid_out(cells: &[CellAt], rows: usize, words: &mut [u32]) {
         words.fill(0);
-        let mut link_at = 0;
+        let mut before = 0;
         for (index, cell) in cells.iter().enumerate() {
-            let row = cell.row as usize;
+            let (row, link) = (cell.row as usize, index as u32 + 1);
             let goes_on = index > 0 && cells[index - 1].row == cell.row;
-            link_at = if goes_on { link_at } else { row };
-            words[link_at] = index as u32 + 1;
+            before = if goes_on { before } else { 0 };
+            let links_at = if goes_on { rows + CELL * index - 1 } else { row };
+            words[links_at] += link;
+            words[row] = words[row] % HALF + HALF * link;
             let at = rows + CELL * index;
             words[at] = (PER_ROW * row) as u32 + (cell.column + 1) as u32;
             words[at + 1] = cell.cover as u32;
             words[at + 2] = cell.area as u32;
-            link_at = at + 3;
+            words[at + 3] = HALF * before;
+            before = link;
         }
     }
 
@@ -90,7 +129,9 @@ mod tests {
     #[test]
     fn cells_are_walked_as_they_were_laid_out() {
         assert_eq!(walked(&words(), 3, 3).unwrap(), CELLS);
-        assert_eq!(words()[..4], [1, 0, 3, 0]);
+        assert_eq!(words()[..4], [1 + 65536 * 2, 0, 3 + 65536 * 3, 0]);
+        assert_eq!(words()[6], 2, "the first cell leads to the second");
+        assert_eq!(words()[10], 65536, "the second leads back");
         assert_eq!(words()[11..14], [2 * 8192 + 1, 1, -9i32 as u32]);
     }
 
@@ -101,10 +142,16 @@ mod tests {
             words[at] = word;
             walked(&words, 3, 3).is_err()
         };
-        assert!(spoilt(0, 4), "a link past the cells");
+        assert!(spoilt(0, 4 + 65536), "a link past the cells");
         assert!(spoilt(2, 0), "a cell on no link");
-        assert!(spoilt(10, 1), "a ring");
+        assert!(spoilt(10, 65536 + 1), "a ring");
         assert!(spoilt(3, 8192), "a cell of another row");
+        assert!(spoilt(10, 0), "a link back to nowhere");
+        assert!(spoilt(6, 65536 * 2 + 2), "a link back of a first cell");
+        assert!(spoilt(0, 1), "a row with cells and no link back");
+        assert!(spoilt(0, 1 + 65536 * 3), "a link back to another row");
+        assert!(spoilt(1, 65536), "an empty row with a link back");
+        assert!(!spoilt(0, 1 + 65536), "back to any cell of the row");
         assert!(walked(&words(), 3, 4).is_err(), "too few words");
     }
 }

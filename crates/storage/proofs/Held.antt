@@ -11,7 +11,7 @@ use borrow.Author.Tests.{le-ltb}
 use lib.ListN.{length, getD, set, length-set}
 use lib.Seq.{getD-set-same, getD-set-other}
 use Rattle.storage.specs.Deposits.{perRow, Deposit}
-use Rattle.storage.specs.Cells.{Named, low, high, Pool, half, nextIn, backIn, linksOf, placeAt, word, linkWord, linkAt, Holds, withSum, withPair, withCell, withNext, withBack, withLed, withNew}
+use Rattle.storage.specs.Cells.{Named, low, high, Pool, half, nextIn, backIn, linksOf, placeAt, word, linkWord, linkAt, Holds, withSum, withPair, withCell, withNext, withBack, withLinked, withNew}
 use Rattle.storage.proofs.Words.{next-links, link-word-lt}
 use Rattle.storage.proofs.Linked.{again, anew}
 
@@ -228,7 +228,7 @@ module _ (ws : List ℕ) (rows width count : ℕ) (log : List Deposit) (P : Hold
         near = named-le row (linkAt ws rows row last) (P .pool .links row last hrow o .named)
 
         led : List ℕ
-        led = withLed ws rows count row last (d .place) (d .cover) (d .area)
+        led = withLinked ws rows count row last (d .place) (d .cover) (d .area)
 
         one : Holds led rows width (suc count) (log ++ (d ∷ []))
         one = held-back ws′ rows width (suc count) (log ++ (d ∷ [])) held-anew row 0 (count + 1) hrow (simp length-set (omega arith))

@@ -11,7 +11,7 @@ use borrow.Author.Tests.{eqb-true, eq-eqb, lt-ltb, le-ltb}
 use Rattle.storage.specs.declared.Kept.{Kept}
 use Rattle.storage.specs.declared.Kept.the-variants.{Cells, Full}
 use Rattle.storage.specs.Deposits.{perRow, placeOf, Deposit, given}
-use Rattle.storage.specs.Cells.{half, low, high, placeAt, nextIn, linksOf, linkAt, linkWord, Holds, withPair, withCell, withNext, withBack, withLed, withNew}
+use Rattle.storage.specs.Cells.{half, low, high, placeAt, nextIn, linksOf, linkAt, linkWord, Holds, withPair, withCell, withNext, withBack, withLinked, withNew}
 use Rattle.storage.specs.Answers.{Sought, isAt, Stored}
 use Rattle.storage.proofs.Sums.{distinct-new}
 use Rattle.storage.proofs.Held.{held-again, held-back, held-new}
@@ -22,7 +22,7 @@ module _ (ws : List ℕ) (rows count row last place cover area : ℕ) where
   -- the steps of an insertion, up to the link back of the cell that follows
   module _ {behind next links : ℕ} {ws₁ ws₂ ws₃ : List ℕ} (e : behind ≡ linkWord rows row last) (f : next ≡ nextIn (getD ws behind 0)) (g : links ≡ linksOf next last)
       (e₁ : ws₁ ≡ withCell ws (rows + 4 * count) place cover area links) (e₂ : ws₂ ≡ withNext ws₁ behind (count + 1)) (e₃ : ws₃ ≡ withBack ws₂ row (count + 1)) where
-    led : ws₃ ≡ withLed ws rows count row last place cover area
+    led : ws₃ ≡ withLinked ws rows count row last place cover area
     led = rw (e₃, e₂, e₁, g, f, e) refl
 
     next-is : next ≡ linkAt ws rows row last

@@ -99,18 +99,18 @@ withNext ws at n = set ws at (linksOf n (backIn (getD ws at 0)))
 abbrev pub withBack : List ℕ → ℕ → ℕ → List ℕ
 withBack ws at n = set ws at (linksOf (nextIn (getD ws at 0)) n)
 
--- a new cell behind last and before next: last's link leads on to it, the row's back to it
-abbrev pub withLed : List ℕ → ℕ → ℕ → ℕ → ℕ → ℕ → ℕ → ℕ → List ℕ
-withLed ws rows count row last place cover area =
+-- a new cell behind last and before next: last's word leads on to it, the row's back to it
+abbrev pub withLinked : List ℕ → ℕ → ℕ → ℕ → ℕ → ℕ → ℕ → ℕ → List ℕ
+withLinked ws rows count row last place cover area =
     let cell = withCell ws (rows + 4 * count) place cover area (linksOf (linkAt ws rows row last) last) in
     withBack (withNext cell (linkWord rows row last) (count + 1)) row (count + 1)
 
--- and next's back to it, if next is a cell's or 0
+-- and next's back to it, unless the pool has no such cell
 abbrev pub withNew : List ℕ → ℕ → ℕ → ℕ → ℕ → ℕ → ℕ → ℕ → List ℕ
 withNew ws rows count row last place cover area =
-    let led = withLed ws rows count row last place cover area in
+    let linked = withLinked ws rows count row last place cover area in
     let next = linkAt ws rows row last in
-    cond (ltb count next) led (withBack led (linkWord rows row next) (count + 1))
+    cond (ltb count next) linked (withBack linked (linkWord rows row next) (count + 1))
 
 -- ---- a row's list
 

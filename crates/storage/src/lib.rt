@@ -1,7 +1,7 @@
 // The pool of cells in a lent workspace, `HeapStorage` of the Rust: a word of links for each row, then four words a cell, its place, cover, area and links.
-// A link is 0, or one more than a cell's index. A word of links holds two. The next one leads on along the row's list, in rising place: from the row's word to
-// the first cell, from a cell to the one behind it. The one back leads from the row's word to the cell stored into last, from a cell to the one before it: it
-// saves a walk from the row's start, and no answer turns on it.
+// A link is 0, or one more than a cell's index; a word of links holds two. The link on leads along the row's list, in rising place: from the row's word to
+// the first cell, from a cell to the next. The link back leads from the row's word to the cell stored into last, from a cell to the one before it: it saves
+// the walk from the row's start, and no answer turns on it.
 // A place is PER_ROW times the row, plus the column counted from 0 for column -1.
 // Each function stays inside the words it is lent and ends, whatever they hold.
 ghost use mathlib.Core.Path.{_≡_};
@@ -15,7 +15,7 @@ ghost use Rattle.storage.specs.Answers.{Room, Upto, Sought, isAt, Storin
 // The places of a row, more than it has columns.
 pub const PER_ROW: usize = 8192;
 
-// A word of links has its next one below this, and its one back in multiples of it.
+// A word of links is the link on, plus HALF times the link back.
 const HALF: usize = 65536;
 
 // Zero in the first n words; the rest as it was.
@@ -52,7 +52,7 @@ pub fn word(ws: &[u32], i: usize) -> usize
     wide(ws[i])
 }
 
-// The link on in a word of links.
+// The link on.
 pub fn next_in(w: u32) -> usize
     ensures { λ r. ⌜ r ≡ nextIn w ⌝ }
 {
@@ -124,8 +124,8 @@ fn walk_on(ws: &[u32], rows: usize, count: usize, row: usize, place: usize, from
 {
     let mut last = from;
     let mut low: usize = 0;
-    let at = link_word(rows, row, from);
-    let mut next = next_in(ws[at]);
+    let behind = link_word(rows, row, from);
+    let mut next = next_in(ws[behind]);
     while next != 0 {
         if count < next {
             return last;
@@ -209,7 +209,8 @@ pub enum Kept {
     Full,
 }
 
-// Puts a new cell behind last and before the cell that followed it: the links of both lead to it, and so does the row's link back.
+// Puts a new cell behind last and before the one that followed it: the links of both lead to it, and so does the row's link back.
+// On words that are no pool's, the one that followed need not be a cell.
 fn insert(
     ws: &mut [u32],
     rows: usize,
@@ -234,7 +235,7 @@ fn insert(
     set_back(ws, link_word(rows, row, next), count + 1);
 }
 
-// Stores a pair: the row's last cell that is not past the pair's place adds it, if the place is its own, and is followed by a new cell of that place if not.
+// Stores a pair: in the row's last cell that is not past its place, if that is the place's own, and in a new cell behind it if not.
 pub fn store(
     ws: &mut [u32],
     rows: usize,

@@ -11,10 +11,10 @@ use Rattle.storage.proofs.walk_on.Statement.{statement}
 use Rattle.storage.proofs.walk_on.Tie as tie
 
 abbrev Inv-loop : tie.InvT-loop
-Inv-loop ws rows count row place from last₀ low₀ at next₀ last low next = Walk ws rows count row place last low next
+Inv-loop ws rows count row place from last₀ low₀ behind next₀ last low next = Walk ws rows count row place last low next
 
 abbrev μ-loop : tie.MeasureT-loop
-μ-loop ws rows count row place from last₀ low₀ at next₀ last low next = place + 1 - low
+μ-loop ws rows count row place from last₀ low₀ behind next₀ last low next = place + 1 - low
 
 -- the first link's word is one of the words
 first : (c : tie.After-link-word Inv-loop μ-loop) → c .link-word .result < length (now (c .before .before .args .ws))
