@@ -6,9 +6,10 @@
 //! | `zeno` | zeno's three files, unchanged, and what they import |
 //! | `oracle` | safe functions over zeno: masks, cells, runs, bounds, placements |
 //! | `numbers` | the dice, and numbers of every character |
+//! | `order` | the orders in which a row's places are filled |
 //! | `list` | path lists: written as bytes, told in words, made simpler |
-//! | `paths` | paths of every character, exhaustive small ones, text, large ones, damaged lists |
-//! | `drawing` | one call of a drawing; calls drawn from the dice, at boundaries, at limits, in bands, wild ones |
+//! | `paths` | paths of every character, exhaustive small ones, text, large ones, rows filled in order, damaged lists |
+//! | `drawing` | one call of a drawing; calls drawn from the dice, at boundaries, at limits, in bands, of rows filled in order, wild ones |
 //! | `placing` | one call of bounds or of a placement, and such calls drawn from the dice |
 //! | `boundaries` | every boundary and refusal of docs/RULES.md as a table written by hand |
 //! | `reading` | the rules' refusals, boxes, placements and pixels, read independently |
@@ -31,6 +32,7 @@ pub mod lent;
 pub mod list;
 pub mod numbers;
 pub mod oracle;
+pub mod order;
 pub mod paths;
 pub mod placing;
 pub mod pool;
