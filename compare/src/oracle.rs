@@ -77,6 +77,13 @@ pub fn painted_cells(label: &Label) -> Option<(Vec<u8>, Vec<CellAt>)> {
     Some((mask, storage.summed()))
 }
 
+/// The pairs that are stored for a label, in zeno's order, or nothing where zeno may not be asked.
+pub fn pairs(label: &Label) -> Option<Vec<CellAt>> {
+    let mut storage = Noted::default();
+    rasterize(label, &mut storage)?;
+    Some(storage.given)
+}
+
 /// The runs of `rasterize_write` in the order in which it hands them out, or nothing where zeno may
 /// not be asked. Rows are the path's own, whatever `up` and `pitch` are.
 pub fn runs(label: &Label) -> Option<Vec<Run>> {

@@ -1,13 +1,15 @@
 //! Paths of every character: small ones exhaustively, others drawn from the dice around a label of a
-//! given size, and lists damaged in one place.
+//! given size, rows filled in a given order, and lists damaged in one place.
 
 mod cancelling;
 mod damaged;
+mod filled;
 mod large;
 mod small;
 mod text;
 
 pub use damaged::damaged;
+pub use filled::Figure;
 pub use large::{large_curves, thin_bar};
 pub use small::{Shape, Small, SMALL};
 pub use text::{address, ADDRESS};
