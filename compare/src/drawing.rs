@@ -1,5 +1,6 @@
 //! One call of a drawing with all that it is lent, and calls drawn from the dice.
 
+mod filled;
 mod limits;
 mod old;
 mod shown;
@@ -7,6 +8,7 @@ mod simpler;
 mod way;
 mod wild;
 
+pub use filled::{every_order, long_rows_filled, orders_in_all, rows_filled};
 pub use limits::{at_the_cap, at_the_limits, in_bands_at_the_cap, with_just_room};
 pub use old::soil;
 pub use shown::floats_shown;

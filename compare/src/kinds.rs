@@ -6,6 +6,7 @@ pub mod boxes;
 pub mod calls;
 pub mod cells;
 pub mod drawings;
+pub mod filled;
 pub mod in_bands;
 pub mod lists;
 pub mod maps;

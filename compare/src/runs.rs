@@ -3,16 +3,17 @@
 use std::time::Instant;
 
 use crate::kinds::{bands::Bands, boxes::Boxes, lists::Lists, maps, placements::Placements};
-use crate::kinds::{cells, drawings, in_bands, run, Kind};
+use crate::kinds::{cells, drawings, filled, in_bands, run, Kind};
 use compare::boundaries;
 use compare::drawing::{
-    at_a_boundary, at_the_cap, at_the_limits, in_bands_at_the_cap, ordinary, with_just_room,
-    with_room_for_bands,
+    at_a_boundary, at_the_cap, at_the_limits, every_order, in_bands_at_the_cap, long_rows_filled,
+    orders_in_all, ordinary, rows_filled, with_just_room, with_room_for_bands,
 };
 use compare::flags::Flags;
 use compare::oracle::Origin;
 use compare::paths::Character;
 use drawings::{Boundaries, Drawings, SmallDrawings};
+use filled::Filled;
 use in_bands::InBands;
 
 pub const USAGE: &str = "compare [--seed S] [--scale N] [--share N] [--only KIND]";
@@ -145,7 +146,26 @@ fn cells(run: &mut Run) -> Result<(), String> {
     for character in Character::ALL {
         run.scaled(&cells::Cells(character), 40_000)?;
     }
-    Ok(())
+    rows_in_order(run)
+}
+
+/// Labels whose rows are filled in every order, the pool just full or lacking a place.
+fn rows_in_order(run: &mut Run) -> Result<(), String> {
+    let all = Filled {
+        name: "rows: all orders of six columns, each again",
+        make: every_order,
+    };
+    run.counted(&all, orders_in_all())?;
+    let short = Filled {
+        name: "rows: filled in order, with just room or just not",
+        make: rows_filled,
+    };
+    run.scaled(&short, 40_000)?;
+    let long = Filled {
+        name: "rows: up to 2,049 places filled in order, with just room or just not",
+        make: long_rows_filled,
+    };
+    run.scaled(&long, 200)
 }
 
 fn drawings(run: &mut Run) -> Result<(), String> {

@@ -93,14 +93,23 @@ fn beside(length: usize, dice: &mut Dice) -> usize {
 /// A call whose pool holds just what is drawn, one place less or more, or misses it by words.
 pub fn with_just_room(dice: &mut Dice) -> Drawing {
     let mut drawing = ordinary(dice);
-    drawing.lend(0, drawing.every_place());
-    let cells = driver::outcome(&drawing).cells;
-    let words = drawing.rows() + 4 * cells;
+    lend_just_room(&mut drawing, dice);
+    drawing
+}
+
+/// Lends a call such a pool.
+pub fn lend_just_room(drawing: &mut Drawing, dice: &mut Dice) {
+    let words = lend_enough(drawing);
     let short = dice.pick(&[0, 0, 1, 4]).min(words);
     let more = dice.pick(&[0, 0, 3]);
     drawing.words = super::old::words(words - short + more);
-    soil(&mut drawing, dice);
-    drawing
+    soil(drawing, dice);
+}
+
+/// Lends a mask and a pool with room for everything, and tells how many words would just do.
+pub fn lend_enough(drawing: &mut Drawing) -> usize {
+    drawing.lend(0, drawing.every_place());
+    drawing.rows() + 4 * driver::outcome(drawing).cells
 }
 
 /// The most places that a pool holds.

@@ -86,7 +86,7 @@ impl Kind for SmallCells {
 }
 
 /// Simpler calls; cells have no mask, and the pitch is the width.
-fn simpler(case: &Drawing) -> Candidates<'_, Drawing> {
+pub fn simpler(case: &Drawing) -> Candidates<'_, Drawing> {
     let candidates = case.simpler();
     let same = |d: &Drawing| d.mask == case.mask && d.pitch == case.pitch;
     Box::new(candidates.filter(same).map(|mut candidate| {
@@ -95,7 +95,7 @@ fn simpler(case: &Drawing) -> Candidates<'_, Drawing> {
     }))
 }
 
-fn judged(case: &Drawing) -> Verdict {
+pub fn judged(case: &Drawing) -> Verdict {
     let list = Lent::new(&case.list, BYTE_MARK, Around::Marks);
     let mut words = Lent::new(&case.words, WORD_MARK, Around::Marks);
     let answer = face::cells(case, list.part(), words.part_mut());

@@ -45,7 +45,7 @@ impl Kind for Drawings {
 }
 
 /// Draws a call on both sides.
-fn judged(case: &Drawing) -> Verdict {
+pub fn judged(case: &Drawing) -> Verdict {
     let expected = driver::outcome(case);
     let called = drawn(case, Around::Marks)?;
     agree_on(case, &called, &expected)?;
