@@ -1,3 +1,4 @@
 mod Pairs
 mod Cells
+mod Stores
 mod OneOutcome

@@ -1,8 +1,10 @@
 -- How the probes' types stand for those of the crates below.
 use Prim.Native.Nat.{ℕ}
 use mathlib.Core.Path.{_≡_}
-use mathlib.Core.Bool.{true, false}
-use mathlib.Core.List.{List, [], _∷_}
+use mathlib.Core.Bool.{true, false, cond, _&&_}
+use mathlib.Core.List.{List, [], _∷_, _++_}
+use lib.Dec.{leb, ltb}
+use lib.ListN.{length, replicate}
 use lib.IntN.{pos}
 use lib.Ieee.{Float}
 use Rattle.float.specs.Cut.{zeroF}
@@ -12,6 +14,11 @@ use Rattle.geometry.specs.declared.Placed.{Placed}
 use Rattle.geometry.specs.declared.Placed.the-variants.{At, Outside}
 use Rattle.geometry.specs.Affine.{pointOf}
 use Rattle.geometry.specs.Box.{boundsOf}
+use Rattle.storage.specs.declared.Kept.{Kept}
+use Rattle.storage.specs.declared.Kept.the-variants.{Cells, Full}
+use Rattle.storage.specs.Deposits.{perRow, Deposit, given, distinct}
+use Rattle.storage.specs.Answers.{mostRows, keptOf, Stored}
+use Rattle.path.specs.Pouring.{poolOf}
 use Rattle.label.specs.declared.Label.{Label}
 use Rattle.label.specs.declared.Answer.{Answer}
 use Rattle.label.specs.declared.Numbers.{Numbers}
@@ -42,3 +49,48 @@ pub record Celled (l : Label) (s words words′ : List ℕ) (r : Numbers) : Type
   pub answer : Answer
   pub numbers : r ≡ numbersOf answer
   pub celled : inking.Celled l s 0xffff_ffff_ffff_ffff words words′ answer
+
+-- ---- pairs stored one behind the other
+
+-- the last column of a row, counted from 0 for column −1
+abbrev pub lastColumn : ℕ
+lastColumn = 8191
+
+-- what a pair stores in a pool of so many rows: nothing outside its rows or columns
+abbrev pub depositOf : ℕ → ℕ → ℕ → ℕ → ℕ → List Deposit
+depositOf rows row column cover area = cond (ltb row rows && ltb column perRow) (given row column cover area ∷ []) []
+
+-- numbers, four a pair: row, column, cover, area; up to three numbers too many are left out
+unfoldable pub depositsOf : ℕ → List ℕ → List Deposit
+depositsOf rows (row ∷ (column ∷ (cover ∷ (area ∷ more)))) = depositOf rows row column cover area ++ depositsOf rows more
+depositsOf rows (row ∷ (column ∷ (cover ∷ []))) = []
+depositsOf rows (row ∷ (column ∷ [])) = []
+depositsOf rows (row ∷ []) = []
+depositsOf rows [] = []
+
+-- the sizes are no pool's, or the pool keeps the pairs so
+pub data Run : Type 0 where
+  unpooled : Run
+  pooled : Kept → Run
+
+-- the run of a log in so many words
+unfoldable pub runOf : ℕ → ℕ → List Deposit → Run
+unfolding distinct
+runOf rows words log = cond (leb rows mostRows && leb rows words) (pooled (keptOf (poolOf rows words) (distinct log))) unpooled
+
+-- the number of cells, which is no more than 16,384; 65,535 for none
+abbrev pub cellsOf : Run → ℕ
+cellsOf (pooled (Cells n)) = n
+cellsOf (pooled Full) = 65535
+cellsOf unpooled = 65535
+
+-- the words afterwards: they hold the log, or are zero, or are as they were
+abbrev pub Left : ℕ → List Deposit → List ℕ → List ℕ → Run → Type 0
+Left rows log before after (pooled (Cells n)) = Stored after rows lastColumn (poolOf rows (length before)) log (Cells n)
+Left rows log before after (pooled Full) = after ≡ replicate (length before) 0
+Left rows log before after unpooled = after ≡ before
+
+-- the run of the pairs: its answer, and what it leaves in the words
+pub record Ran (rows : ℕ) (pairs before after : List ℕ) (r : ℕ) : Type 0 where
+  pub told : r ≡ cellsOf (runOf rows (length before) (depositsOf rows pairs))
+  pub left : Left rows (depositsOf rows pairs) before after (runOf rows (length before) (depositsOf rows pairs))

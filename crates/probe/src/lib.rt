@@ -1,4 +1,5 @@
-// What the runs against the Rust need beside the C face, in an archive of its own: the cells of a drawing, a box of points, and a box placed.
+// What the runs against the Rust need beside the C face, in an archive of its own: the cells of a drawing, a box of points, a box placed, and
+// pairs stored with no drawing.
 use geometry::Bounds;
 use geometry::Placed;
 use geometry::Placement;
@@ -9,11 +10,24 @@ use mosszephyr::MzPoint;
 use mosszephyr::label_of;
 use mosszephyr::mz_point;
 use mosszephyr::origin_of;
+use storage::Kept;
 ghost use mathlib.Core.Path.{_≡_};
+ghost use Prim.Native.Nat.{_≤_};
+ghost use lib.ListN.{length};
 ghost use Rattle.geometry.specs.Placing.{placedOf};
+ghost use Rattle.storage.specs.Answers.{Room, Deposited};
+ghost use Rattle.path.specs.Pouring.{poolOf};
 ghost use Rattle.paper.specs.Placing.{boxOf};
 ghost use Rattle.mosszephyr.specs.Face.{pointOutOfC, originOf, labelOf};
-ghost use Rattle.probe.specs.Probes.{boxInC, boxOutOfC, placedInC, pairsOf, Celled};
+ghost use Rattle.probe.specs.Probes.{boxInC, boxOutOfC, placedInC, pairsOf, Celled, lastColumn, depositOf, depositsOf, Ran};
+
+// The most rows and cells that a pool has.
+const MOST_ROWS: usize = 4096;
+
+const MOST_CELLS: usize = 16384;
+
+// The answer of a run that leaves no cells.
+const NO_CELLS: u64 = 65535;
 
 #[repr(C)]
 pub struct MzBox {
@@ -101,4 +115,87 @@ pub extern "C" fn mz_probe_place(b: MzBox, offset: MzPoint, bottom_left: bool) -
         Point::new(offset.x, offset.y),
         bounds,
     ))
+}
+
+// How many cells the words have room for behind the rows' heads.
+fn pool_of(words: usize, rows: usize) -> usize
+    requires { ⌜ rows ≤ words ⌝ }
+    ensures { λ r. ⌜ r ≡ poolOf rows words ⌝ }
+{
+    let room = (words - rows) / 4;
+    if MOST_CELLS < room {
+        return MOST_CELLS;
+    }
+    room
+}
+
+// Stores a pair, unless it is outside the pool's rows or columns.
+fn store_pair(
+    words: &mut [u32],
+    rows: usize,
+    cap: usize,
+    count: usize,
+    row: usize,
+    column: usize,
+    cover: u32,
+    area: u32,
+) -> Kept
+    requires { ⌜ Room (now words) rows cap count ⌝ }
+    ensures { λ r. ⌜ Deposited (now (words .entry)) (now (words .exit)) rows lastColumn cap count (depositOf rows row column cover area) r ⌝ }
+{
+    if rows <= row {
+        return Kept::Cells(count);
+    }
+    if storage::PER_ROW <= column {
+        return Kept::Cells(count);
+    }
+    storage::store(words, rows, cap, count, row, column, cover, area)
+}
+
+// Stores the pairs in a pool with no cells, until one does not fit.
+fn store_pairs(pairs: &[u32], words: &mut [u32], rows: usize, cap: usize) -> Kept
+    requires { ⌜ Room (now words) rows cap 0 ⌝ }
+    ensures { λ r. ⌜ Deposited (now (words .entry)) (now (words .exit)) rows lastColumn cap 0 (depositsOf rows (now (pairs .entry))) r ⌝ }
+{
+    let mut count: usize = 0;
+    let mut at: usize = 0;
+    while at + 3 < pairs.len() {
+        let row = storage::word(pairs, at);
+        let column = storage::word(pairs, at + 1);
+        let cover = pairs[at + 2];
+        let area = pairs[at + 3];
+        match store_pair(words, rows, cap, count, row, column, cover, area) {
+            Kept::Cells(n) => {
+                count = n;
+                at += 4;
+            }
+            Kept::Full => {
+                return Kept::Full;
+            }
+        }
+    }
+    Kept::Cells(count)
+}
+
+// Stores pairs into a pool of so many rows, one behind the other, and leaves the cells in the words. Four numbers a pair: row, column counted
+// from 0 for column -1, cover, area; up to three numbers too many are left out, and so is a pair outside the pool's rows or columns.
+#[no_mangle]
+pub extern "C" fn mz_probe_stores(pairs: &[u32], rows: usize, words: &mut [u32]) -> u64
+    ensures { λ r. ⌜ Ran rows (now (pairs .entry)) (now (words .entry)) (now (words .exit)) r ⌝ }
+{
+    if MOST_ROWS < rows {
+        return NO_CELLS;
+    }
+    if words.len() < rows {
+        return NO_CELLS;
+    }
+    let cap = pool_of(words.len(), rows);
+    storage::clear(words, rows);
+    match store_pairs(pairs, words, rows, cap) {
+        Kept::Cells(n) => n as u64,
+        Kept::Full => {
+            storage::wipe(words);
+            NO_CELLS
+        }
+    }
 }
