@@ -1,4 +1,5 @@
 mod Pairs
 mod Cells
 mod Stores
+mod Runs
 mod OneOutcome

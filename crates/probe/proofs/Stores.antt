@@ -1,19 +1,17 @@
--- Pairs stored one behind the other.
+-- Pairs stored one behind the other: what each stores, and how the loop goes on.
 use Prim.Native.Nat.{ℕ, suc, _+_, _≤_, _<_}
 use mathlib.Core.Path.{_≡_, refl, sym, ap, _∙_}
 use mathlib.Core.List.{List, [], _∷_, _++_, append-assoc, append-nil}
-use native.Mathlib.Numerals.{add-one}
 use native.Mathlib.Omega.{arith}
-use lib.ListN.{length, getD, drop, replicate, length-append, length-drop, length-replicate}
+use lib.ListN.{length, getD, drop, length-drop}
 use lib.Seq.{drop-cons}
-use borrow.Author.Tests.{lt-ltb, le-ltb, lt-leb, le-leb}
+use borrow.Author.Tests.{lt-ltb, le-ltb}
 use Rattle.storage.specs.declared.Kept.{Kept}
 use Rattle.storage.specs.declared.Kept.the-variants.{Cells, Full}
-use Rattle.storage.specs.Deposits.{perRow, Deposit, distinct}
-use Rattle.storage.specs.Answers.{mostRows, Room, keptOf, Stored, Storing, Deposited}
-use Rattle.storage.proofs.Pools.{room-kept, deposited-none, deposited-one, deposited-then, deposited-full, whole}
-use Rattle.path.specs.Pouring.{poolOf}
-use Rattle.probe.specs.Probes.{lastColumn, depositOf, depositsOf, Run, unpooled, pooled, runOf, cellsOf, Left, Ran}
+use Rattle.storage.specs.Deposits.{perRow, Deposit}
+use Rattle.storage.specs.Answers.{Room, Storing, Deposited}
+use Rattle.storage.proofs.Pools.{room-kept, deposited-none, deposited-one, deposited-then, deposited-full}
+use Rattle.probe.specs.Probes.{lastColumn, depositOf, depositsOf}
 
 -- ---- one pair
 
@@ -36,6 +34,7 @@ module _ (rows : ℕ) (pairs : List ℕ) where
   abbrev pub depositAt : ℕ → List Deposit
   depositAt i = depositOf rows (getD pairs i 0) (getD pairs (i + 1) 0) (getD pairs (i + 2) 0) (getD pairs (i + 3) 0)
 
+  -- the pair at an index comes before the pairs behind it
   four : (i : ℕ) → i + 3 < length pairs → depositsOf rows (drop i pairs) ≡ depositAt i ++ depositsOf rows (drop (i + 4) pairs)
   unfolding depositsOf
   four i h =
@@ -43,8 +42,10 @@ module _ (rows : ℕ) (pairs : List ℕ) where
       let b : i + 2 ≡ suc (suc i) = omega arith in
       let c : i + 3 ≡ suc (suc (suc i)) = omega arith in
       let d : i + 4 ≡ suc (suc (suc (suc i))) = omega arith in
-      rw (drop-cons pairs i 0 (omega arith), drop-cons pairs (suc i) 0 (omega arith), drop-cons pairs (suc (suc i)) 0 (omega arith), drop-cons pairs (suc (suc (suc i))) 0 (omega arith), a, b, c, d)
+      let at : (k : ℕ) → k < length pairs → drop k pairs ≡ getD pairs k 0 ∷ drop (suc k) pairs = λ k p. drop-cons pairs k 0 p in
+      rw (at i (omega arith), at (suc i) (omega arith), at (suc (suc i)) (omega arith), at (suc (suc (suc i))) (omega arith), a, b, c, d)
 
+-- three numbers or fewer are no pair
 short : (rows : ℕ) (ps : List ℕ) → length ps < 4 → depositsOf rows ps ≡ []
 unfolding depositsOf
 short rows [] h = refl
@@ -83,44 +84,3 @@ module _ (rows cap : ℕ) (pairs ws₀ : List ℕ) where
         let none : depositsOf rows (drop at pairs) ≡ [] = short rows (drop at pairs) (simp length-drop (omega (arith, g .within))) in
         let all : g .done ≡ depositsOf rows pairs = rw append-nil at (rw none at (g .all)) in
         rw (← all) (g .held)
-
--- ---- a run, from lent words to its answer
-
-module _ (rows : ℕ) (pairs ws : List ℕ) where
-  abbrev run : Run
-  run = runOf rows (length ws) (depositsOf rows pairs)
-
-  ran : {ws′ : List ℕ} {r : ℕ} (u : Run) → run ≡ u → r ≡ cellsOf u → Left rows (depositsOf rows pairs) ws ws′ u → Ran rows pairs ws ws′ r
-  ran u e t l = record { told = rw e t; left = rw e l }
-
-  many-rows : mostRows < rows → run ≡ unpooled
-  unfolding runOf
-  many-rows h = simp (lt-leb _ _ h)
-
-  few-words : rows ≤ mostRows → length ws < rows → run ≡ unpooled
-  unfolding runOf
-  few-words h g = simp (le-leb _ _ h, lt-leb _ _ g)
-
-  fits : rows ≤ mostRows → rows ≤ length ws → run ≡ pooled (keptOf (poolOf rows (length ws)) (distinct (depositsOf rows pairs)))
-  unfolding runOf
-  fits h g = simp (le-leb _ _ h, le-leb _ _ g)
-
-  pub too-many-rows : mostRows < rows → Ran rows pairs ws ws 65535
-  too-many-rows h = ran unpooled (many-rows h) refl refl
-
-  pub too-few-words : rows ≤ mostRows → length ws < rows → Ran rows pairs ws ws 65535
-  too-few-words h g = ran unpooled (few-words h g) refl refl
-
-  module _ (h : rows ≤ mostRows) (g : rows ≤ length ws) {cap : ℕ} (c : cap ≡ poolOf rows (length ws)) {ws′ ws″ : List ℕ} (e : ws′ ≡ replicate rows 0 ++ drop rows ws)
-      {k : Kept} (d : Deposited ws′ ws″ rows lastColumn cap 0 (depositsOf rows pairs) k) where
-    kept : run ≡ pooled k
-    kept = fits h g ∙ ap pooled (sym (rw c at (whole (drop rows ws) e d .0)))
-
-    long : length ws″ ≡ length ws
-    long = d .long ∙ ap length e ∙ simp (length-append, length-replicate, length-drop) (omega arith)
-
-    pub all-stored : (n : ℕ) → k ≡ Cells n → Ran rows pairs ws ws″ n
-    all-stored n q = ran (pooled (Cells n)) (kept ∙ ap pooled q) refl (rw q at (whole (drop rows ws) e d .1))
-
-    pub too-many-places : {ws‴ : List ℕ} → k ≡ Full → ws‴ ≡ replicate (length ws″) 0 → Ran rows pairs ws ws‴ 65535
-    too-many-places q z = ran (pooled Full) (kept ∙ ap pooled q) refl (rw long at z)

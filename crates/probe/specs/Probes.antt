@@ -78,11 +78,15 @@ unfoldable pub runOf : ℕ → ℕ → List Deposit → Run
 unfolding distinct
 runOf rows words log = cond (leb rows mostRows && leb rows words) (pooled (keptOf (poolOf rows words) (distinct log))) unpooled
 
--- the number of cells, which is no more than 16,384; 65,535 for none
+-- the answer where no cells are left in the words; a pool has no more than 16,384
+abbrev pub noCells : ℕ
+noCells = 65535
+
+-- the number of cells
 abbrev pub cellsOf : Run → ℕ
 cellsOf (pooled (Cells n)) = n
-cellsOf (pooled Full) = 65535
-cellsOf unpooled = 65535
+cellsOf (pooled Full) = noCells
+cellsOf unpooled = noCells
 
 -- the words afterwards: they hold the log, or are zero, or are as they were
 abbrev pub Left : ℕ → List Deposit → List ℕ → List ℕ → Run → Type 0

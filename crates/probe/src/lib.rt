@@ -179,6 +179,7 @@ fn store_pairs(pairs: &[u32], words: &mut [u32], rows: usize, cap: usize) -> Kep
 
 // Stores pairs into a pool of so many rows, one behind the other, and leaves the cells in the words. Four numbers a pair: row, column counted
 // from 0 for column -1, cover, area; up to three numbers too many are left out, and so is a pair outside the pool's rows or columns.
+// Answers the number of cells; NO_CELLS where the sizes are no pool's, and the words stay, or where a pair does not fit, and they are wiped.
 #[no_mangle]
 pub extern "C" fn mz_probe_stores(pairs: &[u32], rows: usize, words: &mut [u32]) -> u64
     ensures { λ r. ⌜ Ran rows (now (pairs .entry)) (now (words .entry)) (now (words .exit)) r ⌝ }

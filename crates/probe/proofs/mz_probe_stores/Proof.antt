@@ -1,6 +1,6 @@
 -- The heads are cleared, so that the pool has no cells; then the pairs are stored, and a pool that is full is wiped.
 use borrow.Author.Needs.{needs}
-use Rattle.probe.proofs.Stores.{too-many-rows, too-few-words, all-stored, too-many-places}
+use Rattle.probe.proofs.Runs.{too-many-rows, too-few-words, all-stored, too-many-places}
 use Rattle.probe.proofs.mz_probe_stores.Statement.{statement}
 use Rattle.probe.proofs.mz_probe_stores.Tie as tie
 use Rattle.probe.proofs.mz_probe_stores.Reads as reads
