@@ -4,9 +4,12 @@
 use crate::drawing::{at_a_boundary, ordinary};
 use crate::driver;
 use crate::numbers::Dice;
-use crate::oracle::{self, Fill, Label, Point, Transform};
+use crate::oracle::{self, Fill, HeapStorage, Label, Point, Transform};
 use crate::paths::SMALL;
+use crate::pool::PER_ROW;
 use crate::reading;
+use crate::stores::{rows_stored, Stored};
+use crate::zeno::raster::{Cell, FixedPoint, RasterStorage, Rasterizer};
 
 fn assert_cells_paint_the_mask(label: &Label) {
     let (mask, cells) = oracle::painted_cells(label).unwrap();
@@ -76,6 +79,54 @@ fn random_labels_paint_the_same_by_cells_and_by_zeno() {
             height: drawing.height,
             pitch: drawing.pitch,
         });
+    }
+}
+
+/// A storage that keeps what it was given before a drawing, so that zeno sweeps that.
+struct Kept(HeapStorage);
+
+impl RasterStorage for Kept {
+    fn reset(&mut self, _: FixedPoint, _: FixedPoint) {}
+
+    fn cells(&self) -> &[Cell] {
+        self.0.cells()
+    }
+
+    fn indices(&self) -> &[i32] {
+        self.0.indices()
+    }
+
+    fn set(&mut self, x: i32, y: i32, area: i32, cover: i32) {
+        self.0.set(x, y, area, cover);
+    }
+}
+
+/// The cells that the oracle says are stored, in whatever order the pairs come, are zeno's: painted
+/// by the rules they give the mask that zeno sweeps from its storage.
+#[test]
+fn stores_paint_the_same_by_cells_and_by_zeno() {
+    let mut dice = Dice::new(39);
+    let width = PER_ROW - 1;
+    for _ in 0..300 {
+        let stores = rows_stored(0, &mut dice);
+        let Stored::Cells(cells) = stores.stored() else {
+            continue;
+        };
+        let mut storage = Kept(HeapStorage::default());
+        oracle::store(stores.rows, &stores.given(), &mut storage.0);
+        let mut mask = vec![0; width * stores.rows];
+        Rasterizer::new(&mut storage).rasterize(
+            Point::ZERO,
+            width as u32,
+            stores.rows as u32,
+            &mut |_| {},
+            Fill::EvenOdd,
+            &mut mask,
+            width,
+            false,
+        );
+        let by_the_rule = reading::mask_of(&cells, Fill::EvenOdd, width, stores.rows);
+        assert!(mask == by_the_rule, "{}", stores.shown());
     }
 }
 

@@ -10,7 +10,7 @@ mod wild;
 
 pub use filled::{every_order, long_rows_filled, orders_in_all, rows_filled};
 pub use limits::{at_the_cap, at_the_limits, in_bands_at_the_cap, with_just_room};
-pub use old::soil;
+pub use old::{soil, soil_words};
 pub use shown::floats_shown;
 pub use simpler::simpler_floats;
 pub use way::{any_step, with_room_for_bands, Way};

@@ -40,6 +40,13 @@ pub fn whole(drawing: &Drawing) -> Result<Whole, Refusal> {
     })
 }
 
+/// The pairs that are stored for the whole label of a call, in zeno's order; 1 to 12 may refuse it.
+pub fn pairs(drawing: &Drawing) -> Result<Vec<CellAt>, Refusal> {
+    let path = reading::judge(drawing)?;
+    let label = label_of(drawing, &path, false, drawing.width);
+    Ok(oracle::pairs(&label).expect("an accepted label is within reach"))
+}
+
 /// What a call draws: the whole label, and of its cells the band's.
 pub struct Drawn {
     /// Height rows of width bytes, not up.

@@ -6,7 +6,7 @@ mod label;
 mod probe;
 
 pub use label::{bounds, draw, draw_in_bands, placement, Answer, Drawn};
-pub use probe::{box_of, cells, place, Placed};
+pub use probe::{box_of, cells, place, stores, Placed};
 
 use compare::oracle::{Point, Transform};
 

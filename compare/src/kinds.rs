@@ -11,6 +11,7 @@ pub mod in_bands;
 pub mod lists;
 pub mod maps;
 pub mod placements;
+pub mod stores;
 
 use std::collections::BTreeMap;
 use std::panic::{catch_unwind, AssertUnwindSafe};

@@ -11,6 +11,7 @@
 //! | `paths` | paths of every character, exhaustive small ones, text, large ones, rows filled in order, damaged lists |
 //! | `drawing` | one call of a drawing; calls drawn from the dice, at boundaries, at limits, in bands, of rows filled in order, wild ones |
 //! | `placing` | one call of bounds or of a placement, and such calls drawn from the dice |
+//! | `stores` | one call of the pool, store by store; calls in every order, of drawings, at the cap, wild ones |
 //! | `boundaries` | every boundary and refusal of docs/RULES.md as a table written by hand |
 //! | `reading` | the rules' refusals, boxes, placements and pixels, read independently |
 //! | `driver` | what a call must leave behind, by the reading and zeno together |
@@ -38,6 +39,7 @@ pub mod placing;
 pub mod pool;
 pub mod reading;
 pub mod shrink;
+pub mod stores;
 pub mod zeno;
 
 #[cfg(test)]

@@ -84,6 +84,22 @@ pub fn pairs(label: &Label) -> Option<Vec<CellAt>> {
     Some(storage.given)
 }
 
+/// What is stored after these pairs, of rows below `rows`: every cell, rows rising and columns
+/// rising in a row.
+pub fn stored(rows: usize, pairs: &[CellAt]) -> Vec<CellAt> {
+    let mut storage = Noted::default();
+    store(rows, pairs, &mut storage);
+    storage.summed()
+}
+
+/// Empties a storage for so many rows and gives it these pairs. It holds any column.
+pub fn store(rows: usize, pairs: &[CellAt], storage: &mut impl RasterStorage) {
+    storage.reset(FixedPoint::new(0, 0), FixedPoint::new(0, rows as i32));
+    for pair in pairs {
+        storage.set(pair.column, pair.row, pair.area, pair.cover);
+    }
+}
+
 /// The runs of `rasterize_write` in the order in which it hands them out, or nothing where zeno may
 /// not be asked. Rows are the path's own, whatever `up` and `pitch` are.
 pub fn runs(label: &Label) -> Option<Vec<Run>> {

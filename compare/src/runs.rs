@@ -3,7 +3,7 @@
 use std::time::Instant;
 
 use crate::kinds::{bands::Bands, boxes::Boxes, lists::Lists, maps, placements::Placements};
-use crate::kinds::{cells, drawings, filled, in_bands, run, Kind};
+use crate::kinds::{cells, drawings, filled, in_bands, run, stores, Kind};
 use compare::boundaries;
 use compare::drawing::{
     at_a_boundary, at_the_cap, at_the_limits, every_order, in_bands_at_the_cap, long_rows_filled,
@@ -12,9 +12,14 @@ use compare::drawing::{
 use compare::flags::Flags;
 use compare::oracle::Origin;
 use compare::paths::Character;
+use compare::stores::{
+    every_sequence, long_rows_stored, of_a_drawing, rows_stored, sequences_in_all,
+    stored_at_the_cap, wild_stores,
+};
 use drawings::{Boundaries, Drawings, SmallDrawings};
 use filled::Filled;
 use in_bands::InBands;
+use stores::Stores;
 
 pub const USAGE: &str = "compare [--seed S] [--scale N] [--share N] [--only KIND]";
 
@@ -165,7 +170,39 @@ fn rows_in_order(run: &mut Run) -> Result<(), String> {
         name: "rows: up to 2,049 places filled in order, with just room or just not",
         make: long_rows_filled,
     };
-    run.scaled(&long, 200)
+    run.scaled(&long, 200)?;
+    stores(run)
+}
+
+fn stores(run: &mut Run) -> Result<(), String> {
+    let all = Stores {
+        name: "stores: all sequences of seven in six columns",
+        make: every_sequence,
+    };
+    run.counted(&all, sequences_in_all())?;
+    let kinds = [
+        (
+            "stores: rows filled in order",
+            rows_stored as fn(u64, &mut _) -> _,
+            200_000,
+        ),
+        (
+            "stores: rows of thousands filled in order",
+            long_rows_stored,
+            120,
+        ),
+        ("stores: those of drawings", of_a_drawing, 40_000),
+        (
+            "stores: about the cap of 16,384 places",
+            stored_at_the_cap,
+            120,
+        ),
+        ("stores: wild ones", wild_stores, 200_000),
+    ];
+    for (name, make, count) in kinds {
+        run.scaled(&Stores { name, make }, count)?;
+    }
+    Ok(())
 }
 
 fn drawings(run: &mut Run) -> Result<(), String> {

@@ -22,15 +22,24 @@ enum Soil {
     Random,
 }
 
+const WAYS: [Soil; 4] = [Soil::Zeros, Soil::Ones, Soil::Small, Soil::Random];
+
 /// Soils the lent bytes and words anew, each in its own way.
 pub fn soil(drawing: &mut Drawing, dice: &mut Dice) {
-    const WAYS: [Soil; 4] = [Soil::Zeros, Soil::Ones, Soil::Small, Soil::Random];
     let (way, mut noise) = (dice.pick(&WAYS), dice.roll());
     for byte in &mut drawing.mask {
         *byte = soiled(way, &mut noise) as u8;
     }
     let way = dice.pick(&WAYS);
     for word in &mut drawing.words {
+        *word = soiled(way, &mut noise);
+    }
+}
+
+/// Soils lent words alone.
+pub fn soil_words(words: &mut [u32], dice: &mut Dice) {
+    let (way, mut noise) = (dice.pick(&WAYS), dice.roll());
+    for word in words {
         *word = soiled(way, &mut noise);
     }
 }

@@ -1,5 +1,5 @@
-//! What is compared beside the C face: the cells of a drawing before they are swept, a box of
-//! points, and a box placed.
+//! What is compared beside the C face: the cells of a drawing before they are swept, a pool store by
+//! store, a box of points, and a box placed.
 
 use super::label::{Drawn, MzLabel};
 use super::MzPoint;
@@ -36,6 +36,13 @@ extern "C" {
         words: *mut u32,
         words_len: usize,
     ) -> Drawn;
+    fn mz_probe_stores(
+        pairs: *const u32,
+        pairs_len: usize,
+        rows: usize,
+        words: *mut u32,
+        words_len: usize,
+    ) -> u64;
     fn mz_probe_box(points: *const f32, len: usize) -> MzBox;
     fn mz_probe_place(b: MzBox, offset: MzPoint, bottom_left: bool) -> MzPlaced;
 }
@@ -55,6 +62,21 @@ pub fn cells(call: &Drawing, list: &[u8], words: &mut [u32]) -> Drawn {
             list.as_ptr(),
             list.len(),
             call.into(),
+            words.as_mut_ptr(),
+            words.len(),
+        )
+    }
+}
+
+/// Stores pairs, four numbers each, into a pool of so many rows and leaves the cells there; answers
+/// how many there are.
+pub fn stores(pairs: &[u32], rows: usize, words: &mut [u32]) -> u64 {
+    // SAFETY: each pointer and length are those of one slice, of which the pairs are only read.
+    unsafe {
+        mz_probe_stores(
+            pairs.as_ptr(),
+            pairs.len(),
+            rows,
             words.as_mut_ptr(),
             words.len(),
         )

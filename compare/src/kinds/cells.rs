@@ -128,7 +128,7 @@ pub fn judged(case: &Drawing) -> Verdict {
 /// After this refusal the words are all zero, as those of a drawing are.
 const NO_ROOM: u8 = 13;
 
-fn agree_on_cells(ours: &[CellAt], theirs: &[CellAt]) -> Result<(), String> {
+pub fn agree_on_cells(ours: &[CellAt], theirs: &[CellAt]) -> Result<(), String> {
     let differ = ours.iter().zip(theirs).position(|(a, b)| a != b);
     match differ {
         None => Ok(()),

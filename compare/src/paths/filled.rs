@@ -102,24 +102,12 @@ fn other_than(across: usize, dice: &mut Dice) -> usize {
 #[cfg(test)]
 mod tests {
     use super::*;
+    use crate::drawing::Drawing;
+    use crate::driver;
     use crate::list;
-    use crate::oracle::{pairs, CellAt, Fill, Label, Transform};
+    use crate::oracle::CellAt;
     use crate::order::Order;
     use std::collections::HashSet;
-
-    fn pairs_of(path: &[Command], width: usize, height: usize) -> Vec<CellAt> {
-        let label = Label {
-            path,
-            transform: Transform::IDENTITY,
-            offset: Point::ZERO,
-            fill: Fill::NonZero,
-            up: false,
-            width,
-            height,
-            pitch: width,
-        };
-        pairs(&label).expect("within reach")
-    }
 
     /// Zeno stores what is new in the order of the visits and in every row, and then, when all has
     /// been stored, known places.
@@ -131,7 +119,7 @@ mod tests {
             let (figure, order) = (Figure::ALL[round % 2], dice.pick(&Order::ALL));
             let visits = order.visits(columns, 1 + dice.below(9), &mut dice);
             let path = figure.path(&visits, rows, &mut dice);
-            let given = pairs_of(&path, columns - 1, rows);
+            let given = driver::pairs(&Drawing::plain(&path, columns - 1, rows)).unwrap();
             let mut known = HashSet::new();
             let is_new = |pair: &CellAt| known.insert((pair.row, pair.column));
             let new: Vec<bool> = given.iter().map(is_new).collect();
