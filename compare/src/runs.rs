@@ -187,9 +187,9 @@ fn stores(run: &mut Run) -> Result<(), String> {
             200_000,
         ),
         (
-            "stores: rows of thousands filled in order",
+            "stores: rows of up to 8,192 places filled in order",
             long_rows_stored,
-            120,
+            160,
         ),
         ("stores: those of drawings", of_a_drawing, 40_000),
         (

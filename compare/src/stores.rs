@@ -8,6 +8,8 @@ pub use makers::{
     stored_at_the_cap, wild_stores,
 };
 
+use std::collections::HashSet;
+
 use crate::oracle::{self, CellAt};
 use crate::pool::PER_ROW;
 
@@ -93,6 +95,12 @@ impl Stores {
 
 /// More pairs are not shown: a case that is told has been made small before.
 const MOST_SHOWN: usize = 80;
+
+/// How many places these pairs have.
+fn places_of(pairs: &[CellAt]) -> usize {
+    let places = pairs.iter().map(|pair| (pair.row, pair.column));
+    places.collect::<HashSet<_>>().len()
+}
 
 /// A pair as it is given to the port.
 pub fn numbers_of(pair: &CellAt) -> [u32; 4] {

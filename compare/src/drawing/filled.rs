@@ -15,39 +15,33 @@ pub fn rows_filled(_: u64, dice: &mut Dice) -> Drawing {
         1 | 2 => 1 + dice.below(40),
         _ => 1 + dice.below(9),
     };
-    let (figure, rows) = (dice.pick(&Figure::ALL), 1 + dice.below(4));
     let again = dice.pick(&[1, 2, 4, columns]);
-    filled(figure, columns, again, rows, dice)
+    let visits = dice.pick(&Order::ALL).visits(columns, again, dice);
+    let (figure, rows) = (dice.pick(&Figure::ALL), 1 + dice.below(4));
+    with_just_room(filled(figure, &visits, rows, dice), dice)
 }
 
 /// As many columns as a list has room for, up to the widest label's, and as many visits again as
-/// may be; mostly one row, since the Rust walks it from its start for every store.
-pub fn long_rows_filled(_: u64, dice: &mut Dice) -> Drawing {
-    let figure = dice.pick(&Figure::ALL);
+/// may be; figure and order by the case's number, mostly one row.
+pub fn long_rows_filled(number: u64, dice: &mut Dice) -> Drawing {
+    let figure = Figure::ALL[number as usize % 2];
+    let order = Order::ALL[number as usize / 2 % Order::ALL.len()];
     let widest = 2049.min(figure.most_visits() - 4);
     let columns = widest - dice.pick(&[0, 0, 1, 49]);
-    let again = figure.most_visits() - columns;
-    filled(figure, columns, again, dice.pick(&[1, 1, 1, 2]), dice)
+    let visits = order.visits(columns, figure.most_visits() - columns, dice);
+    let rows = dice.pick(&[1, 1, 1, 2]);
+    with_just_room(filled(figure, &visits, rows, dice), dice)
 }
 
-/// So many columns, column -1 the first of them, and at most so many visits to known ones.
-fn filled(figure: Figure, columns: usize, again: usize, rows: usize, dice: &mut Dice) -> Drawing {
-    let order = dice.pick(&Order::ALL);
-    let visits = order.visits(columns, again, dice);
-    let mut drawing = drawing_of(figure, &visits, columns, rows, dice);
+fn with_just_room(mut drawing: Drawing, dice: &mut Dice) -> Drawing {
     lend_just_room(&mut drawing, dice);
     drawing
 }
 
-fn drawing_of(
-    figure: Figure,
-    visits: &[usize],
-    columns: usize,
-    rows: usize,
-    dice: &mut Dice,
-) -> Drawing {
-    let path = figure.path(visits, rows, dice);
-    let mut drawing = Drawing::plain(&path, columns - 1, rows);
+/// A label as wide as its visits need, of which column -1 is the first.
+fn filled(figure: Figure, visits: &[usize], rows: usize, dice: &mut Dice) -> Drawing {
+    let width = visits.iter().copied().max().unwrap_or(0);
+    let mut drawing = Drawing::plain(&figure.path(visits, rows, dice), width, rows);
     drawing.fill = dice.pick(&[Fill::NonZero, Fill::EvenOdd]);
     drawing.up = dice.one_in(2);
     drawing
@@ -74,7 +68,7 @@ pub fn every_order(number: u64, dice: &mut Dice) -> Drawing {
     let again = digit(FEW);
     let mut visits = numbers_in_order(FEW, digit(orders_of(FEW)));
     visits.push(again);
-    let mut drawing = drawing_of(figure, &visits, FEW, rows, dice);
+    let mut drawing = filled(figure, &visits, rows, dice);
     let words = lend_enough(&mut drawing);
     drawing.words.truncate(words - 4 * lacking);
     soil(&mut drawing, dice);
@@ -115,8 +109,8 @@ mod tests {
     fn long_rows_are_full() {
         let mut dice = Dice::new(31);
         let mut most = 0;
-        for _ in 0..12 {
-            let mut drawing = long_rows_filled(0, &mut dice);
+        for number in 0..10 {
+            let mut drawing = long_rows_filled(number, &mut dice);
             drawing.lend(0, drawing.every_place());
             let outcome = driver::outcome(&drawing);
             assert_eq!((outcome.number, outcome.cells), (0, drawing.every_place()));

@@ -1,11 +1,11 @@
 //! Calls that fill rows in every order, every short sequence of stores, the stores of drawings, calls
 //! about the cap, and wild ones.
 
-use super::{numbers_of, Stores, MOST_PLACES, MOST_ROWS};
+use super::{numbers_of, places_of, Stores, MOST_PLACES, MOST_ROWS};
 use crate::drawing::{ordinary, soil_words};
 use crate::driver;
 use crate::numbers::Dice;
-use crate::oracle::{self, CellAt};
+use crate::oracle::CellAt;
 use crate::order::Order;
 use crate::pool::PER_ROW;
 
@@ -24,25 +24,30 @@ pub fn rows_stored(_: u64, dice: &mut Dice) -> Stores {
     with_just_room(rows, &joined(lists, dice), dice)
 }
 
-/// A row of up to 4,000 places, seldom of all 8,192, the second row a short one.
-pub fn long_rows_stored(_: u64, dice: &mut Dice) -> Stores {
-    let places = match dice.below(32) {
-        0 => PER_ROW,
+/// A row of thousands of places, one in eight as long as may be, the order by the case's number; the
+/// second row is a short one.
+pub fn long_rows_stored(number: u64, dice: &mut Dice) -> Stores {
+    let places = match number % 8 {
+        7 => PER_ROW,
         _ => 1000 * (1 + dice.below(4)),
     };
-    let long = row_of(0, places, places / 2, dice);
+    let order = Order::ALL[number as usize % Order::ALL.len()];
+    let long = row_in(order, 0, places, places / 2, dice);
     let short = row_of(1, dice.below(12), 3, dice);
     with_just_room(2, &joined(vec![long, short], dice), dice)
 }
 
-/// A row of so many places filled in one order, with up to `again` visits to known ones.
+/// A row of so many places in any order, with up to `again` visits to known ones.
 fn row_of(row: usize, places: usize, again: usize, dice: &mut Dice) -> Vec<CellAt> {
-    let step = match places {
-        0 => 1,
-        _ => dice.pick(&[1, 1, 2, 9]).min(PER_ROW / places),
-    };
+    let order = dice.pick(&Order::ALL);
+    row_in(order, row, places, again, dice)
+}
+
+/// The same in this order.
+fn row_in(order: Order, row: usize, places: usize, again: usize, dice: &mut Dice) -> Vec<CellAt> {
+    let step = dice.pick(&[1, 1, 2, 9]).min(PER_ROW / places.max(1));
     let first = dice.below(PER_ROW + 1 - step * places);
-    let visits = dice.pick(&Order::ALL).visits(places, again, dice);
+    let visits = order.visits(places, again, dice);
     let small = dice.one_in(2);
     let pair = |number: usize| CellAt {
         row: row as i32,
@@ -84,7 +89,7 @@ fn joined(lists: Vec<Vec<CellAt>>, dice: &mut Dice) -> Vec<CellAt> {
 
 /// These pairs with a pool that is exactly full in the end, lacks a place, or has some to spare.
 fn with_just_room(rows: usize, pairs: &[CellAt], dice: &mut Dice) -> Stores {
-    let needed = oracle::stored(rows, pairs).len();
+    let needed = places_of(pairs);
     let places = match dice.below(4) {
         0 => needed.saturating_sub(1),
         1 => needed + 1 + dice.below(40),
@@ -130,7 +135,7 @@ pub fn every_sequence(number: u64, dice: &mut Dice) -> Stores {
         }
     };
     let pairs: Vec<CellAt> = (0..STORES).map(pair).collect();
-    let needed = oracle::stored(1, &pairs).len();
+    let needed = places_of(&pairs);
     lent(1, &pairs, needed - number as usize % 2, 0, dice)
 }
 
@@ -220,8 +225,8 @@ mod tests {
     fn pools_are_full_lack_a_place_or_have_room() {
         let makers: [(Make, u64); 4] = [
             (rows_stored, 2000),
-            (of_a_drawing, 2000),
-            (long_rows_stored, 40),
+            (of_a_drawing, 400),
+            (long_rows_stored, 16),
             (every_sequence, 2000),
         ];
         for (make, count) in makers {

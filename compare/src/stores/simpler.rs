@@ -1,7 +1,6 @@
 //! Simpler forms of a call: fewer pairs, fewer words, clean words, smaller numbers.
 
-use super::Stores;
-use crate::oracle;
+use super::{places_of, Stores};
 use crate::shrink::Candidates;
 
 impl Stores {
@@ -36,7 +35,7 @@ impl Stores {
                 let end = (at + size).min(pairs);
                 stores.pairs.drain(4 * at..4 * end);
             });
-            let freed = self.needed() - without.needed();
+            let freed = places_of(&self.given()) - places_of(&without.given());
             let as_full = without.but(|stores| {
                 let left = stores.words.len().saturating_sub(4 * freed);
                 stores.words.truncate(left);
@@ -46,14 +45,6 @@ impl Stores {
         let stray = self.pairs.len() > 4 * pairs;
         let whole = stray.then(|| self.but(|stores| stores.pairs.truncate(4 * pairs)));
         fewer.chain(whole)
-    }
-
-    /// How many places the pairs need; none where zeno cannot be asked.
-    fn needed(&self) -> usize {
-        match self.places() {
-            None => 0,
-            Some(_) => oracle::stored(self.rows, &self.given()).len(),
-        }
     }
 
     fn with_fewer_words(&self) -> impl Iterator<Item = Stores> + '_ {
