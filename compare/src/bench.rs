@@ -3,8 +3,11 @@
 //! Zeno takes commands and a mask of zeros, and keeps its storage from label to label: as it is used,
 //! the mask is cleared for each label. The port reads and judges a list of bytes, writes every byte
 //! of the label and leaves its workspace wiped: it needs nothing cleared.
+//!
+//! Beside labels, long rows are filled store by store, in one order or another.
 
 mod passes;
+mod rows;
 mod samples;
 
 use std::time::Duration;
@@ -14,7 +17,7 @@ use compare::flags::Flags;
 use passes::{Pass, ZenoPass};
 use samples::Group;
 
-pub const USAGE: &str = "compare bench [--labels N] [--rounds N] [--only text|curves|lines]";
+pub const USAGE: &str = "compare bench [--labels N] [--rounds N] [--only text|curves|lines|rows]";
 
 pub fn bench(words: &[String]) -> Result<(), Stopped> {
     let known = ["--labels", "--rounds", "--only"];
@@ -27,12 +30,30 @@ pub fn bench(words: &[String]) -> Result<(), Stopped> {
         .filter(|(name, ..)| is_asked(name))
         .map(samples::group)
         .collect();
-    if groups.is_empty() {
-        let what = "bench --only takes one of text, curves, lines".to_string();
+    let in_rows = is_asked("rows");
+    if groups.is_empty() && !in_rows {
+        let what = "bench --only takes one of text, curves, lines, rows".to_string();
         return Err(Stopped::Asked(what));
     }
-    for group in &groups {
-        passes::both_agree(group).map_err(Stopped::Different)?;
+    if !groups.is_empty() {
+        of_labels(&groups, labels, rounds).map_err(Stopped::Different)?;
+    }
+    if !groups.is_empty() && in_rows {
+        println!();
+    }
+    if in_rows {
+        let count = labels.div_ceil(LABELS_A_ROW) as usize;
+        rows::in_every_order(count, rounds).map_err(Stopped::Different)?;
+    }
+    Ok(())
+}
+
+/// For so many labels one row is timed: zeno walks a long row from its start for every store.
+const LABELS_A_ROW: u64 = 1000;
+
+fn of_labels(groups: &[Group], labels: u64, rounds: u64) -> Result<(), String> {
+    for group in groups {
+        passes::both_agree(group)?;
     }
     let timed: Vec<Timed> = groups
         .iter()
@@ -53,7 +74,7 @@ const OTHERS: [Pass; 4] = [
     Pass::InBands(16),
 ];
 
-/// One label's time in milliseconds, round by round.
+/// One label's or one store's time, round by round.
 struct Rounds(Vec<f64>);
 
 impl Rounds {
@@ -179,7 +200,7 @@ fn other_ways(all: &[Timed]) {
     }
 }
 
-/// Milliseconds of one label of so many.
-fn each(time: Duration, labels: usize) -> f64 {
-    1000.0 * time.as_secs_f64() / labels as f64
+/// Milliseconds of one label, or one store, of so many.
+fn each(time: Duration, count: usize) -> f64 {
+    1000.0 * time.as_secs_f64() / count as f64
 }

@@ -165,12 +165,12 @@ fn rows_in_order(run: &mut Run) -> Result<(), String> {
         name: "rows: filled in order, with just room or just not",
         make: rows_filled,
     };
-    run.scaled(&short, 40_000)?;
+    run.scaled(&short, 30_000)?;
     let long = Filled {
         name: "rows: up to 2,049 places filled in order, with just room or just not",
         make: long_rows_filled,
     };
-    run.scaled(&long, 200)?;
+    run.scaled(&long, 160)?;
     stores(run)
 }
 

@@ -249,9 +249,21 @@ mod tests {
         assert!(full > 4 && room == 0 && none > 4, "{full} {room} {none}");
     }
 
-    /// In the end of each row known places come: when the pool is full at the latest.
+    /// Whatever rows are joined, the last pair goes to a known place: when the pool is full.
     #[test]
-    fn known_places_come_last() {
+    fn the_last_place_is_known() {
+        let mut dice = Dice::new(40);
+        for number in 0..500 {
+            let stores = rows_stored(number, &mut dice);
+            let places: Vec<&[u32]> = stores.pairs.chunks(4).map(|pair| &pair[..2]).collect();
+            let last = places.split_last();
+            assert!(last.is_none_or(|(last, before)| before.contains(last)));
+        }
+    }
+
+    /// Each row has its places, inside the pool, and ends at a known one.
+    #[test]
+    fn rows_end_at_known_places() {
         let mut dice = Dice::new(36);
         for _ in 0..500 {
             let places = 1 + dice.below(50);
