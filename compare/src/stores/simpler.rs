@@ -3,6 +3,9 @@
 use super::{places_of, Stores};
 use crate::shrink::Candidates;
 
+/// Calls with more pairs than these lose pairs first, many at a time, and keep their numbers.
+const FEW: usize = 48;
+
 impl Stores {
     /// Simpler calls, the boldest first.
     pub fn simpler(&self) -> Candidates<'_, Stores> {
@@ -21,14 +24,14 @@ impl Stores {
         other
     }
 
-    /// Without a run of pairs, all of them at first, a single one in the end; what they alone
-    /// needed in the pool goes with them, so that a full one stays full. Then without what is no
-    /// whole pair.
+    /// Without a run of pairs, all of them at first, a single one in the end; the places that they
+    /// alone needed go with them, so that a full pool stays full. Then without what is no whole
+    /// pair.
     fn with_fewer_numbers(&self) -> impl Iterator<Item = Stores> + '_ {
         let pairs = self.pairs.len() / 4;
         let sizes = std::iter::successors(Some(pairs), |size| Some(size / 2));
         let runs = sizes
-            .take_while(|&size| size > 0)
+            .take_while(move |&size| size > 0 && pairs / size <= 2 * FEW)
             .flat_map(move |size| (0..pairs).step_by(size).map(move |at| (at, size)));
         let fewer = runs.flat_map(move |(at, size)| {
             let without = self.but(|stores| {
@@ -75,7 +78,8 @@ impl Stores {
 
     /// One number 0, halved or one less.
     fn with_smaller_numbers(&self) -> impl Iterator<Item = Stores> + '_ {
-        let numbers = self.pairs.iter().enumerate();
+        let are_few = self.pairs.len() <= 4 * FEW;
+        let numbers = self.pairs.iter().enumerate().filter(move |_| are_few);
         numbers.flat_map(move |(at, &number)| {
             let smaller = [0, number / 2, number.saturating_sub(1)].into_iter();
             let smaller = smaller.filter(move |&other| other < number);
