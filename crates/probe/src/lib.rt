@@ -13,7 +13,6 @@ use mosszephyr::origin_of;
 use storage::Kept;
 ghost use mathlib.Core.Path.{_≡_};
 ghost use Prim.Native.Nat.{_≤_};
-ghost use lib.ListN.{length};
 ghost use Rattle.geometry.specs.Placing.{placedOf};
 ghost use Rattle.storage.specs.Answers.{Room, Deposited};
 ghost use Rattle.path.specs.Pouring.{poolOf};

@@ -1,4 +1,5 @@
 -- A pair outside stores nothing, and `store` promises the rest.
+use native.Mathlib.Omega.{arith}
 use borrow.Author.Needs.{needs}
 use Rattle.probe.proofs.Stores.{below, beside, inside}
 use Rattle.probe.proofs.store_pair.Statement.{statement}
@@ -10,7 +11,7 @@ use Rattle.storage.proofs.store.Reads as store-reads
 returns : tie.Need-returns
 returns c =
     let a = c .before .before in
-    below (a .args .column) (a .args .cover) (a .args .area) (a .pre) (c .if1 .taken)
+    below (a .args .column) (a .args .cover) (a .args .area) (a .pre) (omega (arith, c .if1 .taken))
 
 returns-2 : tie.Need-returns-2
 returns-2 c =
