@@ -151,7 +151,8 @@ fn cells(run: &mut Run) -> Result<(), String> {
     for character in Character::ALL {
         run.scaled(&cells::Cells(character), 40_000)?;
     }
-    rows_in_order(run)
+    rows_in_order(run)?;
+    stores(run)
 }
 
 /// Labels whose rows are filled in every order, the pool just full or lacking a place.
@@ -170,10 +171,10 @@ fn rows_in_order(run: &mut Run) -> Result<(), String> {
         name: "rows: up to 2,049 places filled in order, with just room or just not",
         make: long_rows_filled,
     };
-    run.scaled(&long, 160)?;
-    stores(run)
+    run.scaled(&long, 160)
 }
 
+/// Pairs given to the pool one behind the other, with no drawing.
 fn stores(run: &mut Run) -> Result<(), String> {
     let all = Stores {
         name: "stores: all sequences of seven in six columns",

@@ -45,6 +45,13 @@ pub fn shorter_numbers(numbers: &[f32], size: usize) -> Vec<Vec<f32>> {
     shorter.filter(|c| c.len() < numbers.len()).collect()
 }
 
+/// Shorter lengths of what is lent, the boldest first.
+pub fn shorter_lengths(length: usize) -> Vec<usize> {
+    let candidates = [length / 2, length - length / 8, length.saturating_sub(1)];
+    let shorter = candidates.into_iter();
+    shorter.filter(|&other| other < length).collect()
+}
+
 /// 0, 1 and -1, then the number cut to whole, halved, or with fewer bits.
 pub fn simpler_number(number: f32) -> Vec<f32> {
     let bits = number.to_bits();

@@ -4,7 +4,7 @@
 use super::Drawing;
 use crate::list;
 use crate::oracle::{Fill, Point, Transform};
-use crate::shrink::{simpler_numbers, Candidates};
+use crate::shrink::{shorter_lengths, simpler_numbers, Candidates};
 
 impl Drawing {
     /// Simpler calls, the boldest first.
@@ -65,9 +65,9 @@ impl Drawing {
     }
 
     fn with_less_lent(&self) -> impl Iterator<Item = Drawing> + '_ {
-        let masks = shorter(self.mask.len()).into_iter();
+        let masks = shorter_lengths(self.mask.len()).into_iter();
         let masks = masks.map(|length| self.but(|d| d.mask.truncate(length)));
-        let words = shorter(self.words.len()).into_iter();
+        let words = shorter_lengths(self.words.len()).into_iter();
         masks.chain(words.map(|length| self.but(|d| d.words.truncate(length))))
     }
 
@@ -101,12 +101,6 @@ fn smaller_sizes(sizes: [usize; 5]) -> Vec<[usize; 5]> {
     let sum = |sizes: &[usize; 5]| sizes.iter().map(|&size| size as u128).sum::<u128>();
     candidates.retain(|candidate| sum(candidate) < sum(&sizes));
     candidates
-}
-
-fn shorter(length: usize) -> Vec<usize> {
-    let candidates = [length / 2, length - length / 8, length.saturating_sub(1)];
-    let shorter = candidates.into_iter();
-    shorter.filter(|&other| other < length).collect()
 }
 
 /// Simpler transforms and offsets. The identity is the simplest transform.

@@ -108,33 +108,48 @@ mod tests {
     use crate::oracle::CellAt;
     use crate::order::Order;
     use std::collections::HashSet;
+    use std::hash::Hash;
 
-    /// Zeno stores what is new in the order of the visits and in every row, and then, when all has
-    /// been stored, known places.
+    /// A figure, visits and rows, and the pairs that zeno stores for them.
+    fn tried(dice: &mut Dice) -> (Figure, Vec<usize>, usize, Vec<CellAt>) {
+        let (columns, rows) = (2 + dice.below(40), 1 + dice.below(4));
+        let (figure, order) = (dice.pick(&Figure::ALL), dice.pick(&Order::ALL));
+        let visits = order.visits(columns, 1 + dice.below(9), dice);
+        let path = figure.path(&visits, rows, dice);
+        let drawing = Drawing::plain(&path, columns - 1, rows);
+        (figure, visits, rows, driver::pairs(&drawing).unwrap())
+    }
+
+    /// Each number where it comes first.
+    fn firsts<T: Copy + Eq + Hash>(numbers: impl Iterator<Item = T>) -> Vec<T> {
+        let mut known = HashSet::new();
+        numbers.filter(|&number| known.insert(number)).collect()
+    }
+
+    /// In every row zeno stores columns first in the order of their first visits.
     #[test]
-    fn rows_are_filled_in_order_and_known_places_come_last() {
+    fn rows_are_filled_in_the_order_of_the_visits() {
         let mut dice = Dice::new(28);
-        for round in 0..600 {
-            let (columns, rows) = (1 + dice.below(40), 1 + dice.below(4));
-            let (figure, order) = (Figure::ALL[round % 2], dice.pick(&Order::ALL));
-            let visits = order.visits(columns, 1 + dice.below(9), &mut dice);
-            let path = figure.path(&visits, rows, &mut dice);
-            let given = driver::pairs(&Drawing::plain(&path, columns - 1, rows)).unwrap();
-            let mut known = HashSet::new();
-            let is_new = |pair: &CellAt| known.insert((pair.row, pair.column));
-            let new: Vec<bool> = given.iter().map(is_new).collect();
-            let mut firsts = new.iter().zip(&given).filter(|(new, _)| **new);
-            let top: Vec<usize> = firsts
-                .by_ref()
-                .filter(|(_, pair)| pair.row == 0)
-                .map(|(_, pair)| (pair.column + 1) as usize)
-                .collect();
-            let mut met = HashSet::new();
-            let mut columns_met = visits.clone();
-            columns_met.retain(|&column| met.insert(column));
-            assert_eq!(top, columns_met, "{figure:?} {order:?}");
-            let alone = figure == Figure::Strokes && columns == 1;
-            assert!(alone || !new[new.len() - 1], "{figure:?} {visits:?}");
+        for _ in 0..600 {
+            let (figure, visits, rows, pairs) = tried(&mut dice);
+            let visited = firsts(visits.iter().copied());
+            for row in 0..rows as i32 {
+                let in_row = pairs.iter().filter(|pair| pair.row == row);
+                let columns = firsts(in_row.map(|pair| (pair.column + 1) as usize));
+                assert_eq!(columns, visited, "{figure:?} row {row}");
+            }
+        }
+    }
+
+    /// When every place has been stored, and a pool with just room is full, known ones come.
+    #[test]
+    fn known_places_come_last() {
+        let mut dice = Dice::new(41);
+        for _ in 0..600 {
+            let (figure, visits, _, pairs) = tried(&mut dice);
+            let places: Vec<_> = pairs.iter().map(|pair| (pair.row, pair.column)).collect();
+            let (last, before) = places.split_last().expect("a store at least");
+            assert!(before.contains(last), "{figure:?} {visits:?}");
         }
     }
 

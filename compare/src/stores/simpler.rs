@@ -1,7 +1,7 @@
 //! Simpler forms of a call: fewer pairs, fewer words, clean words, smaller numbers.
 
 use super::{places_of, Stores};
-use crate::shrink::Candidates;
+use crate::shrink::{shorter_lengths, Candidates};
 
 /// Calls with more pairs than these lose pairs first, many at a time, and keep their numbers.
 const FEW: usize = 48;
@@ -51,10 +51,8 @@ impl Stores {
     }
 
     fn with_fewer_words(&self) -> impl Iterator<Item = Stores> + '_ {
-        let length = self.words.len();
-        let shorter = [length / 2, length - length / 8, length.saturating_sub(1)].into_iter();
-        let shorter = shorter.filter(move |&other| other < length);
-        shorter.map(|length| self.but(|stores| stores.words.truncate(length)))
+        let lengths = shorter_lengths(self.words.len()).into_iter();
+        lengths.map(|length| self.but(|stores| stores.words.truncate(length)))
     }
 
     fn with_clean_words(&self) -> impl Iterator<Item = Stores> + '_ {
