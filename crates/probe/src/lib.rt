@@ -12,18 +12,14 @@ use mosszephyr::mz_point;
 use mosszephyr::origin_of;
 use storage::Kept;
 ghost use mathlib.Core.Path.{_≡_};
-ghost use Prim.Native.Nat.{_≤_};
 ghost use Rattle.geometry.specs.Placing.{placedOf};
 ghost use Rattle.storage.specs.Answers.{Room, Deposited};
-ghost use Rattle.path.specs.Pouring.{poolOf};
 ghost use Rattle.paper.specs.Placing.{boxOf};
 ghost use Rattle.mosszephyr.specs.Face.{pointOutOfC, originOf, labelOf};
 ghost use Rattle.probe.specs.Probes.{boxInC, boxOutOfC, placedInC, pairsOf, Celled, lastColumn, depositOf, depositsOf, Ran};
 
-// The most rows and cells that a pool has.
+// The most rows that a pool has.
 const MOST_ROWS: usize = 4096;
-
-const MOST_CELLS: usize = 16384;
 
 // The answer of a run that leaves no cells.
 const NO_CELLS: u64 = 65535;
@@ -116,18 +112,6 @@ pub extern "C" fn mz_probe_place(b: MzBox, offset: MzPoint, bottom_left: bool) -
     ))
 }
 
-// How many cells the words have room for behind the rows' heads.
-fn pool_of(words: usize, rows: usize) -> usize
-    requires { ⌜ rows ≤ words ⌝ }
-    ensures { λ r. ⌜ r ≡ poolOf rows words ⌝ }
-{
-    let room = (words - rows) / 4;
-    if MOST_CELLS < room {
-        return MOST_CELLS;
-    }
-    room
-}
-
 // Stores a pair, unless it is outside the pool's rows or columns.
 fn store_pair(
     words: &mut [u32],
@@ -189,7 +173,7 @@ pub extern "C" fn mz_probe_stores(pairs: &[u32], rows: usize, words: &mut [u32])
     if words.len() < rows {
         return NO_CELLS;
     }
-    let cap = pool_of(words.len(), rows);
+    let cap = path::pool_of(words.len(), rows);
     storage::clear(words, rows);
     match store_pairs(pairs, words, rows, cap) {
         Kept::Cells(n) => n as u64,

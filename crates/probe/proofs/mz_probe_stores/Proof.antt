@@ -5,7 +5,7 @@ use Rattle.probe.proofs.mz_probe_stores.Statement.{statement}
 use Rattle.probe.proofs.mz_probe_stores.Tie as tie
 use Rattle.probe.proofs.mz_probe_stores.Reads as reads
 use Rattle.probe.proofs.mz_probe_stores.Lts as lts
-use Rattle.probe.proofs.pool_of.Reads as pool-of-reads
+use Rattle.path.proofs.pool_of.Reads as pool-of-reads
 use Rattle.probe.proofs.store_pairs.Reads as store-pairs-reads
 use Rattle.storage.proofs.clear.Reads as clear-reads
 use Rattle.storage.proofs.wipe.Reads as wipe-reads
