@@ -66,7 +66,7 @@ fn of_labels(groups: &[Group], labels: u64, rounds: u64) -> Result<(), String> {
 }
 
 /// What is timed of the port beside a whole drawing, each once in a round.
-const PARTS: [Pass; 3] = [Pass::Judging, Pass::Cells, Pass::Wiping];
+const PARTS: [Pass; 3] = [Pass::Judging, Pass::Unswept, Pass::Wiping];
 const OTHERS: [Pass; 4] = [
     Pass::Roomy,
     Pass::InBands(256),
@@ -164,8 +164,10 @@ fn as_used(all: &[Timed], labels: u64, rounds: u64) {
 /// Where the time goes, as far as calls can tell.
 fn shares(all: &[Timed]) {
     println!("\nWhere the time of the first table goes. Judging: the same list with a byte too");
-    println!("many, refused after its last record. Wiping: an empty list and no width. Path: the");
-    println!("cells left unswept, less judging and half of the wiping. Sweep: the rest.\n");
+    println!("many, refused after its last record. Wiping: an empty list and no width. Path: a");
+    println!(
+        "place too few, refused when all is drawn, less judging and wiping. Sweep: the rest.\n"
+    );
     println!(
         "| labels | zeno's clearing | path | sweep | port's judging | path | sweep | wiping |"
     );
@@ -176,9 +178,9 @@ fn shares(all: &[Timed]) {
             path: zeno_path,
             sweep: zeno_sweep,
         } = timed.zeno_parts;
-        let [judging, cells, wiping] = [0, 1, 2].map(|at: usize| timed.parts[at].best());
-        let path = (cells - judging - wiping / 2.0).max(0.0);
-        let sweep = (timed.whole.best() - judging - path - wiping).max(0.0);
+        let [judging, unswept, wiping] = [0, 1, 2].map(|at: usize| timed.parts[at].best());
+        let path = (unswept - judging - wiping).max(0.0);
+        let sweep = (timed.whole.best() - unswept).max(0.0);
         let times = [
             clearing, zeno_path, zeno_sweep, judging, path, sweep, wiping,
         ];

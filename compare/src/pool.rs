@@ -1,5 +1,5 @@
-//! The cells of a drawing as they stand in the words of a workspace: a word of links for each row, then
-//! four words a cell: its place, cover, area and links. A link is 0 or one more than a cell's index.
+//! The cells of a drawing as they stand in the words of a workspace: a head for each row, then four
+//! words a cell: its place, cover, area and links. A link is 0 or one more than a cell's index.
 
 use crate::oracle::CellAt;
 
@@ -9,7 +9,7 @@ pub const PER_ROW: usize = 8192;
 /// Words of a cell.
 const CELL: usize = 4;
 
-/// A word of links holds two: one on in its low half, one back in its high half.
+/// A head, or a cell's word of links, holds two: one on in its low half, one back in its high half.
 const HALF: u32 = 65536;
 
 fn next_in(word: u32) -> usize {
@@ -26,11 +26,11 @@ pub fn walked(words: &[u32], rows: usize, count: usize) -> Result<Vec<CellAt>, S
     if words.len() < rows + CELL * count {
         return Err(format!("{count} cells in {} words", words.len()));
     }
-    let (links, pool) = words.split_at(rows);
+    let (heads, pool) = words.split_at(rows);
     let mut cells = Vec::with_capacity(count);
-    for (row, &word) in links.iter().enumerate() {
+    for (row, &head) in heads.iter().enumerate() {
         let told = |what: String| format!("row {row}: {what}");
-        row_walked(word, row, &pool[..CELL * count], &mut cells).map_err(told)?;
+        row_walked(head, row, &pool[..CELL * count], &mut cells).map_err(told)?;
     }
     if cells.len() < count {
         return Err(format!("{} of {count} cells on the links", cells.len()));
@@ -38,17 +38,12 @@ pub fn walked(words: &[u32], rows: usize, count: usize) -> Result<Vec<CellAt>, S
     Ok(cells)
 }
 
-/// The cells of the row with this word. A cell's link back must be to the one before it, the row's
-/// to one of its cells.
-fn row_walked(
-    word: u32,
-    row: usize,
-    pool: &[u32],
-    cells: &mut Vec<CellAt>,
-) -> Result<(), String> {
+/// The cells of the row with this head. A cell's link back must be to the one before it, the head's
+/// to one of the row's cells.
+fn row_walked(head: u32, row: usize, pool: &[u32], cells: &mut Vec<CellAt>) -> Result<(), String> {
     let count = pool.len() / CELL;
-    let (mut link, mut before) = (next_in(word), 0);
-    let mut is_back_met = back_in(word) == link;
+    let (mut link, mut before) = (next_in(head), 0);
+    let mut is_back_met = back_in(head) == link;
     while link != 0 {
         if link > count {
             return Err(format!("a link {link}, of {count} cells"));
@@ -62,13 +57,20 @@ fn row_walked(
         if back != before {
             return Err(format!("cell {link} leads back to {back}, not to {before}"));
         }
-        is_back_met |= back_in(word) == link;
+        is_back_met |= back_in(head) == link;
         (link, before) = (next_in(cell[3]), link);
     }
     match is_back_met {
         true => Ok(()),
-        false => Err(format!("leads back to {}, no cell of it", back_in(word))),
+        false => Err(format!("leads back to {}, no cell of it", back_in(head))),
     }
+}
+
+/// The column of the cell that a row's head leads back to, in words that `walked` has found right.
+pub fn stored_last(words: &[u32], rows: usize, row: usize) -> Option<i32> {
+    let link = back_in(words[row]).checked_sub(1)?;
+    let place = words[rows + CELL * link] as usize;
+    Some((place % PER_ROW) as i32 - 1)
 }
 
 fn cell_at(cell: &[u32], row: usize) -> Result<CellAt, String> {
@@ -108,7 +110,11 @@ mod tests {
             let (row, link) = (cell.row as usize, index as u32 + 1);
             let goes_on = index > 0 && cells[index - 1].row == cell.row;
             before = if goes_on { before } else { 0 };
-            let links_at = if goes_on { rows + CELL * index - 1 } else { row };
+            let links_at = if goes_on {
+                rows + CELL * index - 1
+            } else {
+                row
+            };
             words[links_at] += link;
             words[row] = words[row] % HALF + HALF * link;
             let at = rows + CELL * index;
@@ -133,6 +139,12 @@ mod tests {
         assert_eq!(words()[6], 2, "the first cell leads to the second");
         assert_eq!(words()[10], 65536, "the second leads back");
         assert_eq!(words()[11..14], [2 * 8192 + 1, 1, -9i32 as u32]);
+    }
+
+    #[test]
+    fn a_head_leads_back_to_a_column() {
+        let last = |row| stored_last(&words(), 3, row);
+        assert_eq!([last(0), last(1), last(2)], [Some(5), None, Some(0)]);
     }
 
     #[test]

@@ -20,8 +20,9 @@ pub enum Pass {
     InBands(usize),
     /// The list with a byte too many, which is refused after its last record.
     Judging,
-    /// The cells, left unswept.
-    Cells,
+    /// The label, with a workspace that lacks a place: drawn, but for what comes behind the place that
+    /// does not fit, and refused before it is swept.
+    Unswept,
     /// An empty list and no width: only the workspace is wiped.
     Wiping,
 }
@@ -92,15 +93,17 @@ pub fn port(group: &Group, labels: usize, pass: Pass) -> f64 {
         let call = &group.samples[n].call;
         let lent = match pass {
             Pass::Roomy => words.len(),
+            Pass::Unswept => group.samples[n].words() - 4,
             _ => group.samples[n].words(),
         };
         let words = &mut words[..lent];
         let start = Instant::now();
         black_box(match pass {
-            Pass::Whole | Pass::Roomy => face::draw(call, &call.list, &mut mask, words),
+            Pass::Whole | Pass::Roomy | Pass::Unswept => {
+                face::draw(call, &call.list, &mut mask, words)
+            }
             Pass::InBands(step) => face::draw_in_bands(call, step, &call.list, &mut mask, words),
             Pass::Judging => face::draw(call, &lists[n], &mut mask, words),
-            Pass::Cells => face::cells(call, &call.list, words),
             Pass::Wiping => face::draw(&narrow[n], &[], &mut mask, words),
         });
         time += start.elapsed();

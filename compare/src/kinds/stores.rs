@@ -1,5 +1,5 @@
-//! Pairs given to the port's pool and to zeno's storage: the answer, every cell, and the words where
-//! none are left.
+//! Pairs given to the port's pool and to zeno's storage: the answer, every cell, the cell that each row
+//! was stored into last, and the words where no cells are left.
 
 use super::calls::{agree_on_words, keeps};
 use super::cells::agree_on_cells;
@@ -54,6 +54,7 @@ impl Kind for Stores {
                 agree_on_counts(answer, theirs.len() as u64)?;
                 let cells = pool::walked(words.part(), case.rows, theirs.len())?;
                 agree_on_cells(&cells, &theirs)?;
+                agree_on_last(case, words.part())?;
                 let is_full = case.places() == Some(cells.len());
                 Ok(Agreed {
                     heading: if is_full { "just full" } else { "room left" },
@@ -70,6 +71,23 @@ impl Kind for Stores {
     fn show(&self, case: &stores::Stores) -> String {
         case.shown()
     }
+}
+
+/// Each row leads back to the cell that was stored into last.
+fn agree_on_last(case: &stores::Stores, words: &[u32]) -> Result<(), String> {
+    let mut last = vec![None; case.rows];
+    for pair in case.given() {
+        last[pair.row as usize] = Some(pair.column);
+    }
+    for (row, &theirs) in last.iter().enumerate() {
+        let ours = pool::stored_last(words, case.rows, row);
+        if ours != theirs {
+            return Err(format!(
+                "row {row}: it leads back to column {ours:?}, stored into last was {theirs:?}"
+            ));
+        }
+    }
+    Ok(())
 }
 
 fn agree_on_counts(ours: u64, theirs: u64) -> Result<(), String> {

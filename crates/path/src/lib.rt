@@ -267,7 +267,7 @@ fn trace_list(ws: &mut [u32], f: Frame, cap: usize, list: &[u8], t: Transform, o
     }
 }
 
-// How many cells the workspace has room for behind the rows' words.
+// How many cells the workspace has room for behind the rows' heads.
 pub fn pool_of(words: usize, rows: usize) -> usize
     requires { ⌜ rows ≤ words ⌝ }
     ensures { λ r. ⌜ r ≡ poolOf rows words ⌝ }

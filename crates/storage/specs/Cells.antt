@@ -1,4 +1,4 @@
--- When a workspace holds a list of deposits: a word of links for each row, then four words a cell, its place, its cover, its area and its links.
+-- When a workspace holds a list of deposits: a head for each row, then four words a cell, its place, its cover, its area and its links.
 -- A link is a number: 0, or one more than a cell's index.
 use mathlib.Core.Path.{_≡_}
 use mathlib.Core.Bool.{true, false, cond}
@@ -48,7 +48,7 @@ pub record Pool (place cover area : ℕ → ℕ) (link : ℕ → ℕ → ℕ) (r
 
 -- ---- a word of links
 
--- it holds two, of 16 bits each: one on to the next cell in its low half, one back in its high half
+-- a head, or a cell's last word, holds two of 16 bits each: one on to the next cell in its low half, one back in its high half
 abbrev pub half : ℕ
 half = 65536
 
@@ -70,7 +70,7 @@ placeAt ws rows k = getD ws (rows + 4 * k) 0
 abbrev pub word : List ℕ → ℕ → ℕ → ℕ → ℕ
 word ws rows part k = getD ws (rows + 4 * k + part) 0
 
--- where the links behind n stand: the row's word for 0
+-- where the links behind n stand: the row's head for 0
 abbrev pub linkWord : ℕ → ℕ → ℕ → ℕ
 linkWord rows row zero = row
 linkWord rows row (suc k) = rows + 4 * k + 3
@@ -99,13 +99,13 @@ withNext ws at n = set ws at (linksOf n (backIn (getD ws at 0)))
 abbrev pub withBack : List ℕ → ℕ → ℕ → List ℕ
 withBack ws at n = set ws at (linksOf (nextIn (getD ws at 0)) n)
 
--- a new cell behind last and before next: last's word leads on to it, the row's back to it
+-- a new cell behind last and before next: last leads on to it, the head back to it
 abbrev pub withLinked : List ℕ → ℕ → ℕ → ℕ → ℕ → ℕ → ℕ → ℕ → List ℕ
 withLinked ws rows count row last place cover area =
     let cell = withCell ws (rows + 4 * count) place cover area (linksOf (linkAt ws rows row last) last) in
     withBack (withNext cell (linkWord rows row last) (count + 1)) row (count + 1)
 
--- and next's back to it, unless the pool has no such cell
+-- and next back to it, unless the pool has no such cell
 abbrev pub withNew : List ℕ → ℕ → ℕ → ℕ → ℕ → ℕ → ℕ → ℕ → List ℕ
 withNew ws rows count row last place cover area =
     let linked = withLinked ws rows count row last place cover area in

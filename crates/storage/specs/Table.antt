@@ -48,7 +48,7 @@ pool =
     let second = withNew first 2 1 1 0 (placeOf 1 3) 30 40 in
     withNew second 2 2 1 1 (placeOf 1 7) 50 60
 
--- row 1 leads on to cell 2 and back to cell 3, cell 1 on to 3 and back to 2, cell 2 on to 1, cell 3 back to 1
+-- row 1's head leads on to cell 2 and back to cell 3, cell 1 on to 3 and back to 2, cell 2 on to 1, cell 3 back to 1
 words :
     pool
     ≡ 0 ∷ 196610
@@ -67,7 +67,7 @@ named : map (isAt pool 2 (placeOf 1 5)) (1 ∷ 2 ∷ 0 ∷ []) ≡ true ∷ fals
 unfolding pool
 named = refl
 
--- place 5 again: its sums grow, and row 1 leads back to it
+-- place 5 again: its sums grow, and the head leads back to it
 again : withBack (withPair pool 2 1 4294967295) 1 1 ≡ 0 ∷ 65538 ∷ 8197 ∷ 11 ∷ 19 ∷ 131075 ∷ 8195 ∷ 30 ∷ 40 ∷ 1 ∷ 8199 ∷ 50 ∷ 60 ∷ 65536 ∷ []
 unfolding pool
 again = refl

@@ -1,7 +1,7 @@
-// The pool of cells in a lent workspace, `HeapStorage` of the Rust: a word of links for each row, then four words a cell, its place, cover, area and links.
-// A link is 0, or one more than a cell's index; a word of links holds two. The link on leads along the row's list, in rising place: from the row's word to
-// the first cell, from a cell to the next. The link back leads from the row's word to the cell stored into last, from a cell to the one before it: it saves
-// the walk from the row's start, and no answer turns on it.
+// The pool of cells in a lent workspace, `HeapStorage` of the Rust: a head for each row, then four words a cell, its place, cover, area and links.
+// A link is 0, or one more than a cell's index; a head, and a cell's word of links, hold two. The link on leads along the row's list, in rising place: from
+// the head to the first cell, from a cell to the next. The link back leads from the head to the cell stored into last, from a cell to the one before it: it
+// saves the walk from the row's start, and no answer turns on it.
 // A place is PER_ROW times the row, plus the column counted from 0 for column -1.
 // Each function stays inside the words it is lent and ends, whatever they hold.
 ghost use mathlib.Core.Path.{_≡_};
@@ -88,12 +88,13 @@ fn set_back(ws: &mut [u32], at: usize, n: usize)
     ws[at] = links(next_in(ws[at]), n);
 }
 
-// Walks back from the cell stored into last to one that is not past the place; answers 0, the row's start, where it meets none.
+// Walks back from the cell stored into last to one that is not past the place; answers 0, the row's start, where it meets none or that is nearer.
 // `high` falls at each step, so that the walk ends on any words.
 fn walk_back(ws: &[u32], rows: usize, count: usize, row: usize, place: usize) -> usize
     requires { ⌜ (row < rows) × (rows + 4 * count ≤ length (now ws)) × (place / perRow ≡ row) ⌝ }
     ensures { λ r. ⌜ Upto (placeAt (now (ws .entry)) rows) count row place r ⌝ }
 {
+    let start = PER_ROW * row;
     let mut high: usize = 0x1_0000_0000;
     let mut link = back_in(ws[row]);
     while link != 0 {
@@ -106,10 +107,13 @@ fn walk_back(ws: &[u32], rows: usize, count: usize, row: usize, place: usize) ->
             return 0;
         }
         if here <= place {
-            if here < PER_ROW * row {
+            if here < start {
                 return 0;
             }
             return link;
+        }
+        if place - start < here - place {
+            return 0;
         }
         high = here;
         link = back_in(ws[at + 3]);
@@ -156,7 +160,7 @@ fn is_at(ws: &[u32], rows: usize, place: usize, link: usize) -> bool
     word(ws, rows + 4 * (link - 1)) == place
 }
 
-// Where the links behind a cell stand; the row's word for 0.
+// Where the links behind a cell stand; the row's head for 0.
 fn link_word(rows: usize, row: usize, last: usize) -> usize
     requires { ⌜ rows + 4 * last < 2 ^ 64 ⌝ }
     ensures { λ r. ⌜ r ≡ linkWord rows row last ⌝ }
@@ -209,7 +213,7 @@ pub enum Kept {
     Full,
 }
 
-// Puts a new cell behind last and before the one that followed it: the links of both lead to it, and so does the row's link back.
+// Puts a new cell behind last and before the one that followed it: the links of both lead to it, and the head's link back.
 // On words that are no pool's, the one that followed need not be a cell.
 fn insert(
     ws: &mut [u32],
