@@ -93,7 +93,7 @@ pub fn in_every_order(rows: usize, rounds: u64) -> Result<(), String> {
     for order in Order::ALL {
         let Timed { zeno, port } = timed(order, rows, rounds)?;
         println!(
-            "| {} | {:.1} | {:.0} % | {:.1} | {:.0} % | {:.2} |",
+            "| {} | {:.1} | {:.0} % | {:.1} | {:.0} % | {:.3} |",
             order.name(),
             zeno.best(),
             zeno.spread(),

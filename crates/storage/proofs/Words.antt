@@ -1,7 +1,7 @@
 -- Laws of words: all of them filled, the two halves of a word of links, and where it stands.
 use mathlib.Core.Path.{_≡_, refl}
 use mathlib.Core.List.{List, _++_, append-nil}
-use Prim.Native.Nat.{ℕ, zero, suc, _+_, _-_, _*_, _^_, _≤_, _<_}
+use Prim.Native.Nat.{ℕ, zero, suc, _+_, _-_, _*_, _≤_, _<_}
 use native.Mathlib.Omega.{arith}
 use lib.ListN.{length, drop, replicate}
 use lib.Seq.{drop-length}
@@ -18,13 +18,6 @@ next-links next back h = omega arith
 
 pub back-links : (next back : ℕ) → next < half → backIn (linksOf next back) ≡ back
 back-links next back h = omega arith
-
--- two links fit a word, and a word has two
-pub links-fit : (next back : ℕ) → next < half → back < half → linksOf next back < 2 ^ 32
-links-fit next back h g = omega arith
-
-pub halves-fit : (w : ℕ) → w < 2 ^ 32 → (nextIn w < half) × (backIn w < half)
-halves-fit w h = (omega arith, omega arith)
 
 -- the link to any cell of the largest pool fits a half
 pub link-fits : (n : ℕ) → n ≤ mostCells → n < half
