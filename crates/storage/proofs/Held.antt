@@ -11,7 +11,8 @@ use borrow.Author.Tests.{le-ltb}
 use lib.ListN.{length, getD, set, length-set}
 use lib.Seq.{getD-set-same, getD-set-other}
 use Rattle.storage.specs.Deposits.{perRow, Deposit}
-use Rattle.storage.specs.Cells.{Named, low, high, Pool, half, nextIn, backIn, linksOf, placeAt, word, linkWord, linkAt, Holds, withSum, withPair, withCell, withNext, withBack, withLinked, withNew}
+use Rattle.storage.specs.Cells.{Named, low, high, Pool, half, nextIn, backIn, linksOf, placeAt, word, linkWord, linkAt, Holds}
+use Rattle.storage.specs.Cells.{withSum, withPair, withCell, withNext, withBack, withLinked, withNew}
 use Rattle.storage.proofs.Words.{next-links, link-word-lt}
 use Rattle.storage.proofs.Linked.{again, anew}
 
@@ -222,7 +223,8 @@ module _ (ws : List ℕ) (rows width count : ℕ) (log : List Deposit) (P : Hold
     unfolding ws′ cell next lw at
     held-new =
         rw (le-ltb count (linkAt ws rows row last) near)
-        (held-back led rows width (suc count) (log ++ (d ∷ [])) one row (linkAt ws rows row last) (count + 1) hrow (omega (arith, link-word-lt rows row count (linkAt ws rows row last) hrow near, length-led)))
+        (held-back led rows width (suc count) (log ++ (d ∷ [])) one row (linkAt ws rows row last) (count + 1) hrow
+        (omega (arith, link-word-lt rows row count (linkAt ws rows row last) hrow near, length-led)))
       where
         near : linkAt ws rows row last ≤ count
         near = named-le row (linkAt ws rows row last) (P .pool .links row last hrow o .named)

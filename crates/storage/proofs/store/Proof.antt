@@ -68,7 +68,9 @@ returns c =
     let st = w .before .before .before .before .before in
     let a = st .args in
     record {
-      told = at-cell (now (a .ws)) (a .rows) (a .cap) (a .count) (a .row) (a .column) (a .cover) (a .area) (st .pre .1) _ (w .walk-on .ensures) (omega arith) (asked (i .before) (i .if1 .taken)) _ _ (p .add-pair .ensures) (b .set-back .ensures);
+      told =
+          at-cell (now (a .ws)) (a .rows) (a .cap) (a .count) (a .row) (a .column) (a .cover) (a .area)
+          (st .pre .1) _ (w .walk-on .ensures) (omega arith) (asked (i .before) (i .if1 .taken)) _ _ (p .add-pair .ensures) (b .set-back .ensures);
       long = omega (arith, p .add-pair .kept, b .set-back .kept);
       within = st .pre .0 .used;
     }
@@ -83,7 +85,9 @@ returns-2 c =
     let st = w .before .before .before .before .before in
     let a = st .args in
     record {
-      told = at-full (now (a .ws)) (a .rows) (a .cap) (a .count) (a .row) (a .column) (a .cover) (a .area) (st .pre .1) _ (w .walk-on .ensures) (omega arith) (asked (i .before) (i .if1 .left)) (c .if2 .taken);
+      told =
+          at-full (now (a .ws)) (a .rows) (a .cap) (a .count) (a .row) (a .column) (a .cover) (a .area)
+          (st .pre .1) _ (w .walk-on .ensures) (omega arith) (asked (i .before) (i .if1 .left)) (c .if2 .taken);
       long = refl;
       within = tt;
     }
@@ -108,7 +112,9 @@ returns-3 c =
     let st = w .before .before .before .before .before in
     let a = st .args in
     record {
-      told = at-gap (now (a .ws)) (a .rows) (a .cap) (a .count) (a .row) (a .column) (a .cover) (a .area) (st .pre .1) _ (w .walk-on .ensures) (omega arith) (asked (i .before) (i .if1 .left)) (omega arith) (omega arith) (omega arith) (link-fits (a .count + 1) (omega arith)) _ (n .insert .ensures);
+      told =
+          at-gap (now (a .ws)) (a .rows) (a .cap) (a .count) (a .row) (a .column) (a .cover) (a .area)
+          (st .pre .1) _ (w .walk-on .ensures) (omega arith) (asked (i .before) (i .if1 .left)) (omega arith) (omega arith) (omega arith) (link-fits (a .count + 1) (omega arith)) _ (n .insert .ensures);
       long = omega (arith, n .insert .kept);
       within = omega arith;
     }

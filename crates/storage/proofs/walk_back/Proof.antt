@@ -60,7 +60,8 @@ returns-4 c =
     let l = w .before .before .before in
     let st = l .before .before .before .before in
     let a = st .args in
-    upto-cell (now (a .ws)) (a .rows) (a .count) (a .row) (a .place) (l .loop .link) _ (st .pre .2) (w .before .before .loop-test .taken) (w .before .if1 .left) (w .word .ensures) (c .if4 .left) (c .before .if3 .taken)
+    upto-cell (now (a .ws)) (a .rows) (a .count) (a .row) (a .place) (l .loop .link) _ (st .pre .2)
+    (w .before .before .loop-test .taken) (w .before .if1 .left) (w .word .ensures) (c .if4 .left) (c .before .if3 .taken)
 
 sub-if5 : tie.Need-sub-if5 Inv-loop μ-loop
 sub-if5 c = omega arith
