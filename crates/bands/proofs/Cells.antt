@@ -7,6 +7,7 @@ use Rattle.storage.specs.Deposits.{perRow, Deposit, distinct}
 use Rattle.command.specs.declared.Command.{Command}
 use Rattle.sweep.specs.Pixels.{pixel}
 use Rattle.label.specs.declared.Label.{Label}
+use Rattle.label.specs.Checks.{mostPixels}
 use Rattle.label.specs.Draw.{logOf}
 use Rattle.label.specs.Inking.{Sized}
 use Rattle.claims.specs.Parts.{band}
@@ -26,7 +27,7 @@ module _ (l : Label) (z : Sized l) (cs : List Command) where
   abbrev log : List Deposit
   log = logOf l cs
 
-  narrow : l .width ≤ 4096
+  narrow : l .width ≤ mostPixels
   narrow = omega (arith, z .narrow)
 
   own : log ≡ band (l .first) (l .end) (logOf (wholeOf l) cs)

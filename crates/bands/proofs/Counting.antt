@@ -9,6 +9,7 @@ use borrow.Author.Tests.{lt-ltb, le-ltb}
 use Rattle.storage.specs.declared.Kept.{Kept}
 use Rattle.storage.specs.declared.Kept.the-variants.{Cells, Full}
 use Rattle.storage.specs.Deposits.{distinct}
+use Rattle.storage.specs.Answers.{mostCells}
 use Rattle.storage.specs.Cells.{Holds}
 use Rattle.command.specs.declared.Command.{Command}
 use Rattle.label.specs.declared.Label.{Label}
@@ -25,7 +26,7 @@ use Rattle.bands.proofs.Rows.{none-behind, one-band}
 pub record Counting (l : Label) (step : ℕ) (s : List ℕ) (words at total : ℕ) : Type 0 where
   pub from : l .first ≤ at
   pub to : at ≤ l .end
-  pub few : total ≤ 16384 * (at - l .first)
+  pub few : total ≤ mostCells * (at - l .first)
   pub fuel : ℕ
   pub enough : l .end - at ≤ fuel
   pub same : (cs : List Command) → Reads l s cs → tooManyInBand step l words cs ≡ tooManyFrom fuel step l words cs at

@@ -1,5 +1,5 @@
 -- The bands painted one after the other: the rows before `at` have their pixels, every other byte is as it was.
-use Prim.Native.Nat.{ℕ, _+_, _*_, _-_, _^_, _≤_, _<_}
+use Prim.Native.Nat.{ℕ, _+_, _*_, _-_, _≤_, _<_}
 use mathlib.Core.Path.{_≡_, refl, sym, ap, _∙_}
 use mathlib.Core.Bool.{Bool, true, false, cond, _||_}
 use mathlib.Core.Logic.{_⊎_, inl, inr}
@@ -21,7 +21,7 @@ use Rattle.sweep.specs.Pixels.{pixel}
 use Rattle.sweep.proofs.Lines.{mid-before, mid-inside, mid-behind, mid-long}
 use Rattle.sweep.proofs.Mask.{mask-is, mask-by-bytes}
 use Rattle.label.specs.declared.Label.{Label}
-use Rattle.label.specs.Checks.{rows}
+use Rattle.label.specs.Checks.{mostPixels, mostPitch, rows}
 use Rattle.label.specs.Draw.{poolOf, paintedOf, logOf, tooMany}
 use Rattle.label.specs.Inking.{Sized, Lent, Poured}
 use Rattle.claims.specs.OldContents.{spotOf}
@@ -106,9 +106,9 @@ module _ (l : Label) (z : Sized l) (mask : List ℕ) (lines : 0 < rows l → l .
   pub part-in : low + size ≤ length mask
   part-in = omega (arith, part-top, lines (omega arith))
 
-  pub part-near : low + size ≤ 2 ^ 28
+  pub part-near : low + size ≤ mostPitch * mostPixels
   part-near =
-      let far : l .pitch * (rows l - 1) ≤ 65536 * 2048 = mul-le-mul {m₂ = 2048} (z .near) (omega (arith, z .inside, z .low)) in
+      let far : l .pitch * (rows l - 1) ≤ mostPitch * (mostPixels - 1) = mul-le-mul {m₂ = mostPixels - 1} (z .near) (omega (arith, z .inside, z .low)) in
       omega (arith, part-top, z .narrow)
 
   pub part-lent : (words : ℕ) → rows l ≤ words → (n : ℕ) → n ≡ size → Lent own n words

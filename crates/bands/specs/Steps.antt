@@ -1,14 +1,16 @@
 -- What the functions of a drawing in bands promise one another.
-use Prim.Native.Nat.{ℕ, _-_, _≤_}
+use Prim.Native.Nat.{ℕ, _-_, _*_, _≤_}
 use mathlib.Core.Path.{_≡_}
 use mathlib.Core.Bool.{true, false, cond}
 use mathlib.Core.List.{List}
 use Rattle.storage.specs.declared.Kept.{Kept}
 use Rattle.storage.specs.declared.Kept.the-variants.{Cells, Full}
 use Rattle.storage.specs.Deposits.{distinct}
+use Rattle.storage.specs.Answers.{mostCells}
 use Rattle.command.specs.declared.Command.{Command}
 use Rattle.path.specs.Reading.{path, readList}
 use Rattle.label.specs.declared.Label.{Label}
+use Rattle.label.specs.Checks.{mostPixels}
 use Rattle.label.specs.Draw.{poolOf, paintedOf, logOf}
 use Rattle.bands.specs.InBands.{tooManyInBand}
 
@@ -25,7 +27,7 @@ pub record Counted (l : Label) (step : ℕ) (s : List ℕ) (words : ℕ) (r : Ke
   pub full : r ≡ Full → (cs : List Command) → Reads l s cs → tooManyInBand step l words cs ≡ true
   pub fit : (n : ℕ) → r ≡ Cells n → (cs : List Command) → Reads l s cs → tooManyInBand step l words cs ≡ false
   pub counted : (n : ℕ) → r ≡ Cells n → (cs : List Command) → Reads l s cs → n ≡ distinct (logOf l cs)
-  pub few : (n : ℕ) → r ≡ Cells n → n ≤ 33554432
+  pub few : (n : ℕ) → r ≡ Cells n → n ≤ mostCells * mostPixels
 
 -- of an accepted list that fits: the mask is painted
 pub record BandPainted (b : Label) (s : List ℕ) (words : ℕ) (before after : List ℕ) : Type 0 where

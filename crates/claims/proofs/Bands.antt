@@ -18,7 +18,7 @@ use Rattle.path.specs.Reading.{path, readList}
 use Rattle.path.specs.Strokes.{strokesOf}
 use Rattle.label.specs.declared.Label.{Label}
 use Rattle.label.specs.declared.Answer.the-variants.{Drawn}
-use Rattle.label.specs.Checks.{rows, sizesOf, checkedOf}
+use Rattle.label.specs.Checks.{mostPixels, rows, sizesOf, checkedOf}
 use Rattle.label.specs.Draw.{Outcome, outcome, poolOf, paintedOf, wiped, logOf, drawOf}
 use Rattle.label.specs.Inking.{Sized, Lent}
 use Rattle.label.proofs.Sizes.{Fitting, fitting, all-fit, sizes-then}
@@ -43,7 +43,7 @@ sizes-fine l mask words z t =
     go false e = rw e
 
 -- ---- a band's log
-pub log-band : (l : Label) → l .width ≤ 4096 → (cs : List Command) (first end : ℕ) → end ≤ l .height → logOf (bandOf l first end) cs ≡ band first end (logOf (wholeOf l) cs)
+pub log-band : (l : Label) → l .width ≤ mostPixels → (cs : List Command) (first end : ℕ) → end ≤ l .height → logOf (bandOf l first end) cs ≡ band first end (logOf (wholeOf l) cs)
 log-band l narrow cs first end low =
     let strokes = strokesOf (l .transform) (l .offset) cs in
     let near = strokes-near (l .transform) (l .offset) cs in
@@ -66,7 +66,7 @@ module _ (l : Label) (s mask words : List ℕ) (records cells : ℕ) (h : drawOf
   fit : Fitting (wholeOf l) (length mask) (length words)
   fit = fitting (wholeOf l) (length s) (length mask) (length words) (was .fine)
 
-  narrow : l .width ≤ 4096
+  narrow : l .width ≤ mostPixels
   narrow = omega (arith, fit .sized .narrow)
 
   inputs-fine : inputsOf (l .transform) (l .offset) (length s) ≡ Fine

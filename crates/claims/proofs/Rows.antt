@@ -12,6 +12,7 @@ use Rattle.pen.specs.declared.Frame.{Frame}
 use Rattle.pen.specs.Marks.{Pair, inside, placed, seen}
 use Rattle.sweep.specs.declared.Fill.{Fill}
 use Rattle.sweep.specs.Pixels.{byteOf, signed, coverUpTo, areaAt, pixel}
+use Rattle.label.specs.Checks.{mostPixels}
 use Rattle.claims.specs.Parts.{from, band, frame}
 use Rattle.line.proofs.Tests.{both-true}
 use Rattle.claims.proofs.Parts.{same-test, Among, among-is, among-not, part-in, part-out, part-none, total-part}
@@ -46,7 +47,7 @@ module _ (f : Frame) (d : Pair) (ds : List Pair) where
   unfolding seen
   seen-out e = rw e
 
-module _ (width first end height : ℕ) (narrow : width ≤ 4096) (low : end ≤ height) where
+module _ (width first end height : ℕ) (narrow : width ≤ mostPixels) (low : end ≤ height) where
   abbrev whole : Frame
   whole = frame width 0 height
 
@@ -84,7 +85,7 @@ module _ (width first end height : ℕ) (narrow : width ≤ 4096) (low : end ≤
 
 -- ---- pixels
 -- row r of the band [first, end), and column x
-module _ (first end r x : ℕ) (inner : first + r < end) (slim : x < 4096) (log : List Deposit) where
+module _ (first end r x : ℕ) (inner : first + r < end) (slim : x < mostPixels) (log : List Deposit) where
   abbrev lo : ℕ
   lo = perRow * first
 

@@ -1,4 +1,4 @@
--- No cubic in reach is split more than nine deep, and none within the point rule's limit more than eight.
+-- No cubic in reach is split more than nine deep.
 use Prim.Native.Nat.{ℕ, zero, suc, _+_, _-_, _*_, _^_, _≤_}
 use mathlib.Core.Path.{_≡_}
 use mathlib.Core.Bool.{false}
@@ -61,19 +61,14 @@ module _ (n lo hi : ℕ) (g : 2 * (hi - lo) ≤ bound n) where
         on-y = axis (h .end .y-in) (h .near-end .y-in) (h .near-start .y-in) (h .start .y-in);
       })
 
--- within the point rule's limit at most eight deep
-pub limit-flat : (k : Cubic) → Four (Within (bias - limit) (bias + limit)) k → Flat 8 k
-unfolding bound
-limit-flat k h = square-flat 8 (bias - limit) (bias + limit) (omega arith) k h
+reach-within : {p : FixedPoint} → Reach p → Within (bias - limit) (bias + limit) p
+reach-within r = record { x-in = record { low = omega arith; high = r .x-high }; y-in = record { low = omega arith; high = r .y-high } }
 
-reach-within : {p : FixedPoint} → Reach p → Within (2 ^ 20) (3 * 2 ^ 20) p
-reach-within r = record { x-in = record { low = r .x-low; high = r .x-high }; y-in = record { low = r .y-low; high = r .y-high } }
-
--- in reach of lines and curves at most nine
+-- in reach of lines and curves, that is within the point rule, at most nine deep
 pub reach-flat : (k : Cubic) → Four Reach k → Flat 9 k
 unfolding bound
 reach-flat k h =
-    square-flat 9 (2 ^ 20) (3 * 2 ^ 20) (omega arith) k
+    square-flat 9 (bias - limit) (bias + limit) (omega arith) k
     (record { end = reach-within (h .end); near-end = reach-within (h .near-end); near-start = reach-within (h .near-start); start = reach-within (h .start) })
 
 pub flat-more : (n m : ℕ) {k : Cubic} → n ≤ m → Flat n k → Flat m k

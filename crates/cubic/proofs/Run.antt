@@ -10,12 +10,10 @@ use lib.ListN.{length}
 use lib.Dec.{T, lit≤}
 use borrow.Author.Tests.{le-leb}
 use Rattle.fixed.specs.declared.FixedPoint.{FixedPoint}
-use Rattle.fixed.specs.Fixed.{limit, bias}
-use Rattle.fixed.specs.Split.{Within}
 use Rattle.line.specs.Range.{Reach}
 use Rattle.cubic.specs.Cubics.{Cubic, curved, startHalf, endHalf, cubic, cubicFrom, cubicPoints}
 use Rattle.cubic.specs.Depth.{Flat, flat, split, Four, halves, stuck}
-use Rattle.cubic.proofs.Depth.{flat-more, limit-flat, reach-flat}
+use Rattle.cubic.proofs.Depth.{flat-more, reach-flat}
 
 -- ---- a cubic's tree
 
@@ -233,11 +231,6 @@ module _ (a c d b : FixedPoint) where
 
   pub reach-halves : Four Reach (cubic a c d b) → cubicPoints a c d b ≡ halves 9 (cubic a c d b)
   reach-halves r = nine-halves (reach-flat (cubic a c d b) r)
-
-  pub limit-halves : Four (Within (bias - limit) (bias + limit)) (cubic a c d b) → cubicPoints a c d b ≡ halves 8 (cubic a c d b)
-  limit-halves r =
-      let f = limit-flat (cubic a c d b) r in
-      nine-halves (flat-more 8 9 (lit≤ tt) f) ∙ halves-more 8 9 (cubic a c d b) (lit≤ tt) f
 
   -- the full stack is never met, and 1024 steps suffice
   pub never-stuck : Four Reach (cubic a c d b) → stuck 1024 (cubic a c d b) [] ≡ false

@@ -13,7 +13,7 @@ use Rattle.fixed.specs.declared.Spot.the-variants.{At, Outside}
 
 -- the largest number of the point rule, either way
 abbrev pub limit : ℕ
-limit = 524288
+limit = 1048576
 
 -- what is added to a number to hold it
 abbrev pub bias : ℕ

@@ -17,10 +17,10 @@ use Rattle.fixed.specs.Split.{splitQuad, splitCubic}
 fixedBits : ℕ → Fix
 fixedBits b = toFixed (ofBits binary32 b)
 
--- 2048.0 passes and 2048.00390625 fails; the float before it passes, cut; −2048 passes and −2048.00390625 fails
+-- 4096.0 passes and 4096.00390625 fails; the float before it passes, cut; −4096 passes and −4096.00390625 fails
 limits :
-    map fixedBits (0x4500_0000 ∷ 0x4500_0010 ∷ 0x4500_000f ∷ 0xc500_0000 ∷ 0xc500_0010 ∷ [])
-    ≡ Fixed (above 524288) false ∷ Refused ∷ Fixed (above 524288) true ∷ Fixed (below 524288) false ∷ Refused ∷ []
+    map fixedBits (0x4580_0000 ∷ 0x4580_0008 ∷ 0x4580_0007 ∷ 0xc580_0000 ∷ 0xc580_0008 ∷ [])
+    ≡ Fixed (above 1048576) false ∷ Refused ∷ Fixed (above 1048576) true ∷ Fixed (below 1048576) false ∷ Refused ∷ []
 unfolding fixedBits ofBits toFixed
 limits = refl
 

@@ -8,8 +8,8 @@ ghost use Rattle.fixed.specs.Fixed.{toFixed, spotOf, cell, fraction};
 ghost use Rattle.fixed.specs.Scaled.{fixFrom};
 ghost use Rattle.fixed.specs.Split.{mid, mid4, mid8, splitQuad, splitCubic};
 
-// The largest number of the point rule, either way: 2048 pixels.
-pub const LIMIT: u32 = 524288;
+// The largest number of the point rule, either way: 4096 pixels.
+pub const LIMIT: u32 = 1048576;
 
 // What is added to a number to hold it: 8192 pixels.
 pub const BIAS: u32 = 2097152;

@@ -10,7 +10,7 @@ use Rattle.label.specs.declared.Label.{Label}
 
 -- the largest width and height, and the largest pitch
 abbrev pub mostPixels : ℕ
-mostPixels = 2048
+mostPixels = 4096
 
 abbrev pub mostPitch : ℕ
 mostPitch = 65536

@@ -45,7 +45,7 @@ twice =
 
 pub record Table : Type 0 where
   -- ---- 1 to 4, where the check behind it would refuse too; 5 alone; none
-  pub size : sizesOf (label 2049 1 1 2 1) 0 0 ≡ Faulty Size
+  pub size : sizesOf (label 4097 1 1 2 1) 0 0 ≡ Faulty Size
   pub band : sizesOf (label 2 1 1 2 1) 0 0 ≡ Faulty Band
   pub pitch : sizesOf (label 4 3 3 0 3) 8 40 ≡ Faulty Pitch
   pub mask : sizesOf (label 4 3 4 0 3) 11 2 ≡ Faulty Mask

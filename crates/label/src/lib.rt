@@ -44,7 +44,7 @@ pub struct Numbers {
     pub cells: u32,
 }
 
-const MOST_PIXELS: usize = 2048;
+const MOST_PIXELS: usize = 4096;
 
 const MOST_PITCH: usize = 65536;
 

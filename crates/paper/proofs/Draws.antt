@@ -25,7 +25,7 @@ use Rattle.label.specs.Draw.{numbersOf, logOf, tooMany, drawnFrom, checkedDraw,
 use Rattle.claims.specs.Bands.{bandOf}
 use Rattle.bands.specs.InBands.{bandEnd, tooManyFrom, tooManyInBand, drawInBandsOf}
 use Rattle.paper.specs.Steps.{mostBands}
-use Rattle.paper.specs.TurnedAway.{rows, sizeFault, Read, path, readList}
+use Rattle.paper.specs.TurnedAway.{rows, mostPixels, sizeFault, Read, path, readList}
 use Rattle.paper.specs.Cells.{cellsOf, distinct}
 use Rattle.paper.specs.Bytes.{painted}
 use Rattle.paper.specs.Drawing.{Outcome, left, refused, accepted, wiped, pool, full, oneFull, inked, drawRead, drawIn, draw, band, bandsFrom, drawInBands}
@@ -39,25 +39,25 @@ abbrev pub told : label.Outcome → Outcome
 told o = record { answer = numbersOf (o .answer); mask = o .mask; words = o .words }
 
 -- ---- what is stored, and how much of it
-count-held : (l : Label) (cs : List Command) → l .width ≤ 2048 → AllPassed (l .transform) (l .offset) cs
+count-held : (l : Label) (cs : List Command) → l .width ≤ mostPixels → AllPassed (l .transform) (l .offset) cs
     → distinct (cellsOf l cs) ≡ held.distinct (logOf l cs)
 count-held l cs w h = distinct-held l (cellsOf l cs) w (cells-in l cs) ∙ ap held.distinct (cells-held l cs h)
 
-paint-held : (l : Label) (mask : List ℕ) (cs : List Command) → l .width ≤ 2048 → AllPassed (l .transform) (l .offset) cs
+paint-held : (l : Label) (mask : List ℕ) (cs : List Command) → l .width ≤ mostPixels → AllPassed (l .transform) (l .offset) cs
     → painted l (cellsOf l cs) 0 mask ≡ label.paintedOf l (logOf l cs) mask
 unfolding label.paintedOf
 paint-held l mask cs w h =
     painted-held l (cellsOf l cs) 0 mask w (cells-in l cs)
     ∙ ap (λ (log : List held.Deposit). maskFrom (l .fill) log (rows l) (l .width) (l .up) (l .pitch) 0 mask) (cells-held l cs h)
 
-full-held : (words : ℕ) (l : Label) (cs : List Command) → l .width ≤ 2048 → AllPassed (l .transform) (l .offset) cs
+full-held : (words : ℕ) (l : Label) (cs : List Command) → l .width ≤ mostPixels → AllPassed (l .transform) (l .offset) cs
     → full words cs l ≡ tooMany l words cs
 full-held words l cs w h = ap (λ (n : ℕ). ltb (pool l words) n) (count-held l cs w h)
 
 -- 13 is asked by both sides alike
 abbrev Asked : List Label → (List Command → Bool) → Label → ℕ → Type 0
 Asked bands asked l words =
-    (cs : List Command) → l .width ≤ 2048 → AllPassed (l .transform) (l .offset) cs → oneFull words cs bands ≡ asked cs
+    (cs : List Command) → l .width ≤ mostPixels → AllPassed (l .transform) (l .offset) cs → oneFull words cs bands ≡ asked cs
 
 module _ (bands : List Label) (asked : List Command → Bool) (l : Label) (mask words : List ℕ) (same : Asked bands asked l (length words)) where
   -- ---- an accepted list
@@ -67,14 +67,14 @@ module _ (bands : List Label) (asked : List Command → Bool) (l : Label) (mask 
   full-cond true records cells after = refl
   full-cond false records cells after = refl
 
-  inked-held : (cs : List Command) → l .width ≤ 2048 → AllPassed (l .transform) (l .offset) cs
+  inked-held : (cs : List Command) → l .width ≤ mostPixels → AllPassed (l .transform) (l .offset) cs
       → inked (oneFull (length words) cs bands) l (length cs) (cellsOf l cs) mask words ≡ told (label.inked (asked cs) l mask words cs)
   unfolding inked label.inked
   inked-held cs w h =
       rw (same cs w h, count-held l cs w h, paint-held l mask cs w h)
       (full-cond (asked cs) (length cs) (held.distinct (logOf l cs)) (label.paintedOf l (logOf l cs) mask))
 
-  read-drawn : (r : reading.Read) → l .width ≤ 2048 → PassedRead (l .transform) (l .offset) (numbered r)
+  read-drawn : (r : reading.Read) → l .width ≤ mostPixels → PassedRead (l .transform) (l .offset) (numbered r)
       → drawRead bands l (numbered r) mask words ≡ told (drawnFrom asked l mask words r)
   unfolding drawRead drawnFrom
   read-drawn (reading.refused why i) w h = refl
@@ -87,7 +87,7 @@ module _ (bands : List Label) (asked : List Command → Bool) (l : Label) (mask 
   checked-is Fine s = refl
   checked-is (Faulty why) s = refl
 
-  list-drawn : (s : List ℕ) → l .width ≤ 2048
+  list-drawn : (s : List ℕ) → l .width ≤ mostPixels
       → drawRead bands l (readList (l .transform) (l .offset) s) mask words
       ≡ told (checkedDraw asked (inputsOf (l .transform) (l .offset) (length s)) l s mask words)
   unfolding readChecked
@@ -116,8 +116,8 @@ module _ (bands : List Label) (asked : List Command → Bool) (l : Label) (mask 
   sizes-picked false false false false true v s x h = refl
   sizes-picked false false false false false v s x h = h refl
 
-  narrow : (ltb 2048 (l .width) || ltb 2048 (l .height)) ≡ false → l .width ≤ 2048
-  narrow e = ltb-false 2048 (l .width) (first (ltb 2048 (l .width)) (ltb 2048 (l .height)) e)
+  narrow : (ltb mostPixels (l .width) || ltb mostPixels (l .height)) ≡ false → l .width ≤ mostPixels
+  narrow e = ltb-false mostPixels (l .width) (first (ltb mostPixels (l .width)) (ltb mostPixels (l .height)) e)
     where
       first : (x y : Bool) → (x || y) ≡ false → x ≡ false
       first true y e = e
@@ -126,7 +126,7 @@ module _ (bands : List Label) (asked : List Command → Bool) (l : Label) (mask 
   draws-in : (s : List ℕ) → drawIn bands l s mask words ≡ told (drawBy asked l s mask words)
   unfolding drawIn drawBy checkedOf sizesOf sizeFault
   draws-in s = sizes-picked
-      (ltb 2048 (l .width) || ltb 2048 (l .height))
+      (ltb mostPixels (l .width) || ltb mostPixels (l .height))
       (ltb (l .end) (l .first) || ltb (l .height) (l .end))
       (ltb (l .pitch) (l .width) || ltb 65536 (l .pitch))
       (ltb 0 (rows l) && ltb (length mask) (l .pitch * (rows l - 1) + l .width))
@@ -149,7 +149,7 @@ unfolding draw drawOf
 draws l s mask words = draws-in (l ∷ []) (tooMany l (length words)) l mask words (asked-once l (length words)) s
 
 -- EVERY DRAWING IN BANDS
-module _ (step : ℕ) (l : Label) (words : ℕ) (cs : List Command) (w : l .width ≤ 2048) (h : AllPassed (l .transform) (l .offset) cs) where
+module _ (step : ℕ) (l : Label) (words : ℕ) (cs : List Command) (w : l .width ≤ mostPixels) (h : AllPassed (l .transform) (l .offset) cs) where
   -- one band, and those behind it
   asked-band : (n from to : ℕ) (b : Bool) → oneFull words cs (bandsFrom n step l to) ≡ tooManyFrom n step l words cs to
       → oneFull words cs (elim b as (λ _. List Label) [ true ↦ band l from to ∷ bandsFrom n step l to | false ↦ [] ])

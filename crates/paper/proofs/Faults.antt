@@ -12,7 +12,7 @@ use Rattle.geometry.specs.declared.Transform.{Transform}
 use Rattle.command.specs.declared.Command.{Command}
 use Rattle.label.specs.declared.Label.{Label}
 use Rattle.paper.specs.PathList.{lengthIn, kindIn, lengthOf, commandIn, pointsOf}
-use Rattle.paper.specs.TurnedAway.{rows, sizeFault, allFinite, inputFault, allPass, recordFault}
+use Rattle.paper.specs.TurnedAway.{rows, mostPixels, sizeFault, allFinite, inputFault, allPass, recordFault}
 use Rattle.paper.specs.TurnedAway.{Read, path, faulty, before, readFrom, readList}
 
 first-of-five : (a b c d e : Bool) → cond {A = ℕ} a 1 (cond b 2 (cond c 3 (cond d 4 (cond e 5 0)))) ≤ 5
@@ -26,7 +26,7 @@ first-of-five false false false false false = omega arith
 pub size-most : (l : Label) (mask words : ℕ) → sizeFault l mask words ≤ 5
 unfolding sizeFault
 size-most l mask words = first-of-five
-    (ltb 2048 (l .width) || ltb 2048 (l .height))
+    (ltb mostPixels (l .width) || ltb mostPixels (l .height))
     (ltb (l .end) (l .first) || ltb (l .height) (l .end))
     (ltb (l .pitch) (l .width) || ltb 65536 (l .pitch))
     (ltb 0 (rows l) && ltb mask (l .pitch * (rows l - 1) + l .width))

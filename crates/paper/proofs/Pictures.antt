@@ -12,7 +12,7 @@ use lib.IntN.{pos}
 use borrow.Author.Tests.{lt-ltb, le-ltb, ltb-false}
 use Rattle.sweep.proofs.Mask.{line-of, column-of}
 use Rattle.label.specs.declared.Label.{Label}
-use Rattle.paper.specs.TurnedAway.{rows, sizeFault}
+use Rattle.paper.specs.TurnedAway.{rows, mostPixels, sizeFault}
 use Rattle.paper.specs.Cells.{Pair}
 use Rattle.paper.specs.Bytes.{value, byteOf, rowAt, byteAt, painted}
 use Rattle.paper.specs.Demands.{In, place}
@@ -46,7 +46,7 @@ pub sound : (l : Label) (mask words : ℕ) → sizeFault l mask words ≡ 0 → 
 unfolding sizeFault
 sound l mask words e =
     let h = none-of-five
-    (ltb 2048 (l .width) || ltb 2048 (l .height))
+    (ltb mostPixels (l .width) || ltb mostPixels (l .height))
     (ltb (l .end) (l .first) || ltb (l .height) (l .end))
     (ltb (l .pitch) (l .width) || ltb 65536 (l .pitch))
     (ltb 0 (rows l) && ltb mask (l .pitch * (rows l - 1) + l .width))

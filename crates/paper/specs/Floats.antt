@@ -1,5 +1,5 @@
 -- docs/RULES.md, "From floats to 24.8 numbers": points, the point rule, cells, transforms.
-use Prim.Native.Nat.{_*_ as _*ℕ_, _/_ as _/ℕ_}
+use Prim.Native.Nat.{ℕ, _*_ as _*ℕ_, _/_ as _/ℕ_}
 use mathlib.Core.Bool.{Bool, cond, _&&_}
 use lib.Dec.{leb}
 use lib.IntN.{ℤ, pos, negℤ, natAbs}
@@ -40,8 +40,11 @@ pub record Spot : Type 0 where  -- a point in 24.8 numbers: whole numbers of 256
   pub x : ℤ
   pub y : ℤ
 
-abbrev pub near : Float → Bool  -- finite, and when cut within 524,288 (2,048 pixels) of zero
-near v = finite v && leb (natAbs (fixedOf v)) 524288
+abbrev pub limit : ℕ  -- how far from zero a part of a point may lie, when cut: 4,096 pixels
+limit = 1048576
+
+abbrev pub near : Float → Bool  -- finite, and when cut within the limit
+near v = finite v && leb (natAbs (fixedOf v)) limit
 
 abbrev pub passes : Point → Bool  -- the point rule: both parts are near
 passes p = near (p .x) && near (p .y)

@@ -16,10 +16,13 @@ use Rattle.paper.specs.Floats.{moved, shifted, passes}
 abbrev pub rows : Label → ℕ  -- the band is the rows from first up to end
 rows l = l .end - l .first
 
+abbrev pub mostPixels : ℕ  -- the largest width and height
+mostPixels = 4096
+
 -- 1 to 5: the first that holds, for a mask of so many bytes and a workspace of so many words
 unfoldable pub sizeFault : Label → ℕ → ℕ → ℕ
 sizeFault l mask words =
-    cond (ltb 2048 (l .width) || ltb 2048 (l .height)) 1
+    cond (ltb mostPixels (l .width) || ltb mostPixels (l .height)) 1
     (cond (ltb (l .end) (l .first) || ltb (l .height) (l .end)) 2
     (cond (ltb (l .pitch) (l .width) || ltb 65536 (l .pitch)) 3
     (cond (ltb 0 (rows l) && ltb mask (l .pitch * (rows l - 1) + l .width)) 4

@@ -35,8 +35,8 @@ pub record Table : Type 0 where
   pub line-second :
       readList identityOf (at 0 0) (move 0x3f80_0000 0x3f80_0000 ++ line 0x3f80_0000 0x3f80_0000)
       ≡ path (MoveTo (at 0x3f80_0000 0x3f80_0000) ∷ LineTo (at 0x3f80_0000 0x3f80_0000) ∷ [])
-  -- (2048,0) offset by (0.00390625,0) lies outside
-  pub outside : readList identityOf (at 0x3b80_0000 0) (move 0 0 ++ line 0x4500_0000 0) ≡ refused Outside 1
+  -- (4096,0) offset by (0.00390625,0) lies outside
+  pub outside : readList identityOf (at 0x3b80_0000 0) (move 0 0 ++ line 0x4580_0000 0) ≡ refused Outside 1
   -- the pool of three rows: 0, 3, 4, 7 and 8 words behind the rows' heads
   pub small : map (poolOf 3) (3 ∷ 6 ∷ 7 ∷ 10 ∷ 11 ∷ []) ≡ 0 ∷ 0 ∷ 1 ∷ 1 ∷ 2 ∷ []
   -- 65,535, 65,536 and 65,540

@@ -14,6 +14,7 @@ ghost use mathlib.Core.Path.{_≡_};
 ghost use mathlib.Core.List.{[], _∷_};
 ghost use Prim.Native.Nat.{_≤_, _<_};
 ghost use lib.ListN.{length};
+ghost use Rattle.storage.specs.Answers.{mostRows};
 ghost use Rattle.pen.specs.Drawing.{Ready};
 ghost use Rattle.line.specs.Range.{Reach};
 ghost use Rattle.raster.specs.Tracing.{ReachAll};
@@ -281,7 +282,7 @@ pub fn pool_of(words: usize, rows: usize) -> usize
 
 // The drawing's edges, as cells.
 fn frame_of(width: usize, first: usize, end: usize) -> Frame
-    requires { ⌜ (width ≤ 4096) × (first ≤ 4096) × (end ≤ 4096) ⌝ }
+    requires { ⌜ (width ≤ mostRows) × (first ≤ mostRows) × (end ≤ mostRows) ⌝ }
     ensures { λ r. ⌜ r ≡ frameOf width first end ⌝ }
 {
     Frame {

@@ -7,7 +7,7 @@ use lib.ListN.{length}
 use Rattle.storage.specs.declared.Kept.{Kept}
 use Rattle.storage.specs.declared.Kept.the-variants.{Cells}
 use Rattle.storage.specs.Deposits.{Deposit}
-use Rattle.storage.specs.Answers.{Within, Stored}
+use Rattle.storage.specs.Answers.{mostRows, Within, Stored}
 use Rattle.pen.specs.declared.Frame.{Frame}
 use Rattle.pen.specs.declared.Pen.{Pen}
 use Rattle.pen.specs.Marks.{Mark, Stand, nowhere, at, after, Pair, left, seen}
@@ -22,9 +22,9 @@ width f = f .wide - 8192
 -- words with room for the band's heads and cap cells
 pub record Ready (f : Frame) (cap : ℕ) (ws : List ℕ) : Type 0 where
   pub right : 8192 ≤ f .wide
-  pub narrow : f .wide ≤ 12288
+  pub narrow : f .wide ≤ 8192 + mostRows
   pub ordered : f .first ≤ f .end
-  pub few : f .end ≤ f .first + 4096
+  pub few : f .end ≤ f .first + mostRows
   pub small : cap ≤ 16384
   pub fits : f .end + 4 * cap ≤ length ws + f .first
 

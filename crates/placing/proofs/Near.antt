@@ -1,6 +1,6 @@
 -- A box has each of its parts from some point, so it keeps what all the points' parts have. A part that passes the point rule lies far below 2 ^ 23:
 -- with the offset added, the box of an accepted list lies where geometry's placement is never `Outside`.
-use Prim.Native.Nat.{ℕ, _*_, _/_, _%_, _^_, _≤_, _<_}
+use Prim.Native.Nat.{ℕ, _+_, _*_, _/_, _%_, _^_, _≤_, _<_}
 use mathlib.Core.Path.{_≡_, refl}
 use mathlib.Core.Bool.{Bool, true, false, not, cond}
 use mathlib.Core.List.{List, [], _∷_, _++_, map}
@@ -73,9 +73,12 @@ module _ (P Q : Float → Type 0) where
   box-keeps p ps (cons h hs) = from-keeps (boxAt p) ps (record { low = h; high = h }) hs
 
 -- ---- what passes the point rule reaches
-small : (m d : ℕ) → 0 < d → m * 256 / d ≤ limit → m ≤ 2049 * d
+abbrev pub most : ℕ  -- in whole pixels, rounded up
+most = limit / 256 + 1
+
+small : (m d : ℕ) → 0 < d → m * 256 / d ≤ limit → m ≤ most * d
 small m d D l =
-    let h : m * 256 < 524289 * d = div-lt-iff-lt-mul D .0 (omega arith) in
+    let h : m * 256 < (limit + 1) * d = div-lt-iff-lt-mul D .0 (omega arith) in
     omega arith
 
 abbrev isFixed : Fix → Bool
@@ -91,7 +94,7 @@ limited s n r e = go (leb n limit) refl e
 
 -- a part by the point rule: finite, and small
 pub data Small : Float → Type 0 where
-  small-part : {s : Bool} {m : ℕ} {e : ℤ} → m * up e ≤ 2049 * down e → Small (fin s m e)
+  small-part : {s : Bool} {m : ℕ} {e : ℤ} → m * up e ≤ most * down e → Small (fin s m e)
 
 fixed-small : (v : Float) → isFixed (toFixed v) ≡ true → Small v
 unfolding toFixed

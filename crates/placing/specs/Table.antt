@@ -71,16 +71,16 @@ pub empty-bottom-left : placement BottomLeft identityOf (at 0x3f00_0000 0x3f00_0
 unfolding ofBits laidOf
 empty-bottom-left = refl
 
--- offset 2048 passes, 2048.00390625 is 12 with index 0, as x and as y
-pub empty-farthest : placement TopLeft identityOf (at 0x4500_0000 0) [] ≡ lies 0xc500_0000 0x8000_0000 (pos 2048) (pos 0) 0 0
+-- offset 4096 passes, 4096.00390625 is 12 with index 0, as x and as y
+pub empty-farthest : placement TopLeft identityOf (at 0x4580_0000 0) [] ≡ lies 0xc580_0000 0x8000_0000 (pos 4096) (pos 0) 0 0
 unfolding ofBits laidOf
 empty-farthest = refl
 
-pub empty-outside : placement TopLeft identityOf (at 0x4500_0010 0) [] ≡ placeRefused 12 0
+pub empty-outside : placement TopLeft identityOf (at 0x4580_0008 0) [] ≡ placeRefused 12 0
 unfolding ofBits laidOf
 empty-outside = refl
 
-pub empty-outside-y : placement TopLeft identityOf (at 0 0xc500_0010) [] ≡ placeRefused 12 0
+pub empty-outside-y : placement TopLeft identityOf (at 0 0xc580_0008) [] ≡ placeRefused 12 0
 unfolding ofBits laidOf
 empty-outside-y = refl
 
@@ -103,8 +103,8 @@ pub tie-turned : placement TopLeft still (at 0x8000_0000 0x8000_0000) (move 0x80
 unfolding ofBits laidOf
 tie-turned = refl
 
--- ---- the point rule judges the cut number: 2048.0037 passes, and both ways gives 4098×4098, left −2049, new offset 2049
-pub farthest : placement TopLeft identityOf (at 0 0) (move 0xc500_000f 0xc500_000f ++ line 0x4500_000f 0x4500_000f) ≡ lies 0x4500_1000 0x4500_1000 (negsuc 2048) (negsuc 2048) 4098 4098
+-- ---- the point rule judges the cut number: 4096.0034 passes, and both ways gives 8194×8194, left −4097, new offset 4097
+pub farthest : placement TopLeft identityOf (at 0 0) (move 0xc580_0007 0xc580_0007 ++ line 0x4580_0007 0x4580_0007) ≡ lies 0x4580_0800 0x4580_0800 (negsuc 4096) (negsuc 4096) 8194 8194
 unfolding ofBits laidOf
 farthest = refl
 
@@ -163,15 +163,15 @@ pub eleven : placement TopLeft identityOf (at 0 0) (close ++ corners) ≡ placeR
 unfolding ofBits laidOf
 eleven = refl
 
--- 12: the second point at 2048.00390625; with the offset (1,0), (2048,0) fails, which bounds accept
-pub twelve : bounds identityOf (move 0 0 ++ line 0 0x4500_0010 ++ close) ≡ boxRefused 12 1
+-- 12: the second point at 4096.00390625; with the offset (1,0), (4096,0) fails, which bounds accept
+pub twelve : bounds identityOf (move 0 0 ++ line 0 0x4580_0008 ++ close) ≡ boxRefused 12 1
 unfolding ofBits boundsOf
 twelve = refl
 
-pub twelve-placed : placement TopLeft identityOf (at 0x3f80_0000 0) (move 0 0 ++ line 0x4500_0000 0) ≡ placeRefused 12 1
+pub twelve-placed : placement TopLeft identityOf (at 0x3f80_0000 0) (move 0 0 ++ line 0x4580_0000 0) ≡ placeRefused 12 1
 unfolding ofBits laidOf
 twelve-placed = refl
 
-pub twelve-not : bounds identityOf (move 0 0 ++ line 0x4500_0000 0) ≡ box 0 0 0x4500_0000 0
+pub twelve-not : bounds identityOf (move 0 0 ++ line 0x4580_0000 0) ≡ box 0 0 0x4580_0000 0
 unfolding ofBits boundsOf
 twelve-not = refl

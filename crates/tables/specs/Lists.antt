@@ -17,17 +17,20 @@ use Rattle.placing.specs.declared.PlaceNumbers.{PlaceNumbers}
 use Rattle.paper.specs.Drawing.{Outcome, draw, drawInBands}
 
 -- ---- coordinates by their bits, and lists
-abbrev pub −2048·004 : ℕ  -- −2048.00390625
-−2048·004 = 0xc500_0010
+abbrev pub −4096·004 : ℕ  -- −4096.00390625
+−4096·004 = 0xc580_0008
 
-abbrev pub −2048·0037 : ℕ  -- the float above −2048.00390625
-−2048·0037 = 0xc500_000f
+abbrev pub −4096·0034 : ℕ  -- the float above −4096.00390625
+−4096·0034 = 0xc580_0007
+
+abbrev pub −4096 : ℕ
+−4096 = 0xc580_0000
+
+abbrev pub −4095 : ℕ
+−4095 = 0xc57f_f000
 
 abbrev pub −2048 : ℕ
 −2048 = 0xc500_0000
-
-abbrev pub −2047 : ℕ
-−2047 = 0xc4ff_e000
 
 abbrev pub −9 : ℕ
 −9 = 0xc110_0000
@@ -170,14 +173,20 @@ n197 = 0x4345_0000
 abbrev pub n2048 : ℕ
 n2048 = 0x4500_0000
 
-abbrev pub n2048·0037 : ℕ  -- the float below 2048.00390625
-n2048·0037 = 0x4500_000f
+abbrev pub n4095 : ℕ
+n4095 = 0x457f_f000
 
-abbrev pub n2048·004 : ℕ  -- 2048.00390625
-n2048·004 = 0x4500_0010
+abbrev pub n4096 : ℕ
+n4096 = 0x4580_0000
 
-abbrev pub n2049 : ℕ
-n2049 = 0x4500_1000
+abbrev pub n4096·0034 : ℕ  -- the float below 4096.00390625
+n4096·0034 = 0x4580_0007
+
+abbrev pub n4096·004 : ℕ  -- 4096.00390625
+n4096·004 = 0x4580_0008
+
+abbrev pub n4097 : ℕ
+n4097 = 0x4580_0800
 
 abbrev pub n16777216 : ℕ
 n16777216 = 0x4b80_0000

@@ -22,9 +22,9 @@ use Rattle.paper.specs.Cells.{spotIn, marks, stored, cellsOf, known, distinct}
 use Rattle.paper.specs.Bytes.{coverUpTo, areaAt, byteOf, painted}
 use Rattle.paper.specs.Drawing.{oneFull, inked, drawRead, drawIn, draw, bandsFrom, drawInBands}
 use Rattle.paper.specs.Placing.{boxFrom, boxOf, pointsIn, bounds, floor, placementOf, placement}
-use Rattle.tables.specs.Lists.{−2048·004, −2048·0037, −2048, −2047, −9, −5, −4, −3, −2, −1, −0·5, n0}
+use Rattle.tables.specs.Lists.{−4096·004, −4096·0034, −4096, −4095, −2048, −9, −5, −4, −3, −2, −1, −0·5, n0}
 use Rattle.tables.specs.Lists.{−0, n0·25, n0·5, n0·75, n1, n2, n2·5, n3, n3·25, n4, n5, n6, n7, n8}
-use Rattle.tables.specs.Lists.{n2048, n2048·0037, n2048·004, n2049, huge, infinite, notNumber}
+use Rattle.tables.specs.Lists.{n2048, n4095, n4096, n4096·0034, n4096·004, n4097, huge, infinite, notNumber}
 use Rattle.tables.specs.Lists.{corners, rectangle, nulls, closes, affine, banded, label, under}
 use Rattle.tables.specs.Lists.{shiftedBy, drawn, full, turned, Draws, InBands, box, boxRefused, lies}
 use Rattle.tables.specs.Lists.{placeRefused}
@@ -46,16 +46,34 @@ tall = corners n1 n0 n3 n0 n3 n3 n1 n3
 abbrev two-corners : List ℕ  -- K11's box
 two-corners = move n0·5 n0·25 ++ line n3·25 n2
 
+abbrev four-pixels : List ℕ  -- the four in the corners of the largest label
+four-pixels =
+    corners n0 n0 n1 n0 n1 n1 n0 n1
+    ++ corners n4095 n0 n4096 n0 n4096 n1 n4095 n1
+    ++ corners n0 n4095 n1 n4095 n1 n4096 n0 n4096
+    ++ corners n4095 n4095 n4096 n4095 n4096 n4096 n4095 n4096
+
 abbrev still : Transform  -- the identity with tx = ty = −0
 still = affine n1 n0 n0 n1 −0 −0
 
 pub record Trials : Type 0 where
   -- ---- boundaries
-  -- 2,048 wide or high pass, 2,049 is 1
-  pub wide : Draws (label 2048 1) [] 2048 1 (drawn 0 0 (replicate 2048 0))
-  pub high : Draws (label 1 2048) [] 2048 2048 (drawn 0 0 (replicate 2048 0))
-  pub too-wide : Draws (label 2049 0) [] 0 40 (turned 1 0)
-  pub too-high : Draws (label 0 2049) [] 0 40 (turned 1 0)
+  -- 4,096 wide or high pass, 4,097 is 1
+  pub wide : Draws (label 4096 1) [] 4096 1 (drawn 0 0 (replicate 4096 0))
+  pub high : Draws (label 1 4096) [] 4096 4096 (drawn 0 0 (replicate 4096 0))
+  pub too-wide : Draws (label 4097 0) [] 0 40 (turned 1 0)
+  pub too-high : Draws (label 0 4097) [] 0 40 (turned 1 0)
+  -- the first and the last row of the largest label: its corners, and a rectangle from −4096 to 4096 either way
+  pub first-corners :
+      Draws (banded NonZero false 4096 4096 4096 0 1) four-pixels 4096 40
+      (drawn 20 3 (255 ∷ replicate 4094 0 ++ 255 ∷ []))
+  pub last-corners :
+      Draws (banded NonZero false 4096 4096 4096 4095 4096) four-pixels 4096 40
+      (drawn 20 3 (255 ∷ replicate 4094 0 ++ 255 ∷ []))
+  pub last-row :
+      Draws (banded NonZero false 4096 4096 4096 4095 4096)
+      (corners −4096 −4096 n4096 −4096 n4096 n4096 −4096 n4096) 4096 40
+      (drawn 5 1 (replicate 4096 255))
   -- pitch 3 for width 4 is 3; pitch 65,536 passes, 65,537 is 3
   pub low-pitch : Draws (banded NonZero false 4 3 3 0 3) rectangle 12 40 (turned 3 0)
   pub high-pitch : Draws (banded NonZero false 1 1 65536 0 1) [] 1 1 (drawn 0 0 (0 ∷ []))
@@ -127,7 +145,7 @@ pub record Trials : Type 0 where
   pub longest : Draws (label 1 1) (nulls 65536) 1 40 (turned 9 0)
   -- ---- two faults at once: the first decides
   -- 1 to 8
-  pub first-1-2 : Draws (banded NonZero false 2049 1 2049 1 0) [] 0 40 (turned 1 0)
+  pub first-1-2 : Draws (banded NonZero false 4097 1 4097 1 0) [] 0 40 (turned 1 0)
   pub first-2-3 : Draws (banded NonZero false 4 3 3 3 2) [] 12 40 (turned 2 0)
   pub first-3-4 : Draws (banded NonZero false 4 3 3 0 3) [] 0 40 (turned 3 0)
   pub first-4-5 : Draws (label 4 3) [] 11 2 (turned 4 0)
@@ -143,31 +161,34 @@ pub record Trials : Type 0 where
   -- a LineTo first and its infinite point
   pub first-11-12 : Draws (label 1 1) (line infinite n0) 1 40 (turned 11 0)
   -- a point too far, and kind 6 in the next record; the same, and no room for a cell
-  pub earlier-12 : Draws (label 1 1) (move n2048·004 n0 ++ 0x02 ∷ 0x00 ∷ 0x06 ∷ 0x00 ∷ []) 1 40 (turned 12 0)
-  pub first-12-13 : Draws (label 1 1) (move n0 n0 ++ line n2048·004 n0) 1 1 (turned 12 1)
+  pub earlier-12 : Draws (label 1 1) (move n4096·004 n0 ++ 0x02 ∷ 0x00 ∷ 0x06 ∷ 0x00 ∷ []) 1 40 (turned 12 0)
+  pub first-12-13 : Draws (label 1 1) (move n0 n0 ++ line n4096·004 n0) 1 1 (turned 12 1)
   -- ---- the point rule
-  -- 2048 passes, 2048.00390625 does not, on either axis and of either sign; 2048.0037 cut is 2048
-  pub near : Draws (label 1 1) (move n0 n0 ++ line n2048 n0) 1 40 (drawn 2 1 (0 ∷ []))
-  pub far-x : Draws (label 1 1) (move n0 n0 ++ line n2048·004 n0) 1 40 (turned 12 1)
-  pub far-y : Draws (label 1 1) (move n0 n0 ++ line n0 −2048·004) 1 40 (turned 12 1)
-  pub near-cut : Draws (label 1 1) (move n0 n0 ++ line n2048·0037 n0) 1 40 (drawn 2 1 (0 ∷ []))
+  -- 4096 passes, 4096.00390625 does not, on either axis and of either sign; 4096.0034 cut is 4096
+  pub near : Draws (label 1 1) (move n0 n0 ++ line n4096 n0) 1 40 (drawn 2 1 (0 ∷ []))
+  pub near-corners : Draws (label 1 1) (move n4096 −4096 ++ move −4096 n4096) 1 40 (drawn 2 0 (0 ∷ []))
+  pub far-x : Draws (label 1 1) (move n0 n0 ++ line n4096·004 n0) 1 40 (turned 12 1)
+  pub far-y : Draws (label 1 1) (move n0 n0 ++ line n0 −4096·004) 1 40 (turned 12 1)
+  pub far-left : Draws (label 1 1) (move n0 n0 ++ line −4096·004 n0) 1 40 (turned 12 1)
+  pub far-below : Draws (label 1 1) (move n0 n0 ++ line n0 n4096·004) 1 40 (turned 12 1)
+  pub near-cut : Draws (label 1 1) (move n0 n0 ++ line n4096·0034 n0) 1 40 (drawn 2 1 (0 ∷ []))
   -- a part that is no number, an infinite one
   pub nan-12 : Draws (label 1 1) (move n0 n0 ++ line n0 notNumber) 1 40 (turned 12 1)
   pub infinite-12 : Draws (label 1 1) (move infinite n0) 1 40 (turned 12 0)
   -- every point of a curve counts
-  pub quad-control-12 : Draws (label 1 1) (move n0 n0 ++ quad n2048·004 n0 n0 n0) 1 40 (turned 12 1)
-  pub quad-end-12 : Draws (label 1 1) (move n0 n0 ++ quad n0 n0 n0 n2048·004) 1 40 (turned 12 1)
-  pub curve-first-12 : Draws (label 1 1) (move n0 n0 ++ curve n2048·004 n0 n0 n0 n0 n0) 1 40 (turned 12 1)
-  pub curve-end-12 : Draws (label 1 1) (move n0 n0 ++ curve n0 n0 n0 n0 n0 n2048·004) 1 40 (turned 12 1)
-  pub curve-second-12 : Draws (label 1 1) (move n0 n0 ++ curve n0 n0 n0 n2048·004 n0 n0) 1 40 (turned 12 1)
+  pub quad-control-12 : Draws (label 1 1) (move n0 n0 ++ quad n4096·004 n0 n0 n0) 1 40 (turned 12 1)
+  pub quad-end-12 : Draws (label 1 1) (move n0 n0 ++ quad n0 n0 n0 n4096·004) 1 40 (turned 12 1)
+  pub curve-first-12 : Draws (label 1 1) (move n0 n0 ++ curve n4096·004 n0 n0 n0 n0 n0) 1 40 (turned 12 1)
+  pub curve-end-12 : Draws (label 1 1) (move n0 n0 ++ curve n0 n0 n0 n0 n0 n4096·004) 1 40 (turned 12 1)
+  pub curve-second-12 : Draws (label 1 1) (move n0 n0 ++ curve n0 n0 n0 n4096·004 n0 n0) 1 40 (turned 12 1)
   -- 3e38 is killed by xx = 0, an infinite part is not
   pub killed : Draws (under (scale (float n0) (float n1)) (label 1 1)) (move huge n0) 1 40 (drawn 1 1 (0 ∷ []))
   pub not-killed : Draws (under (scale (float n0) (float n1)) (label 1 1)) (move infinite n0) 1 40 (turned 12 0)
-  -- the offset counts: with 2048.00390625 of it (0,0) is too far, with −1 of it 2048.00390625 is near
-  pub offset-12 : Draws (shiftedBy n2048·004 n0 (label 1 1)) (move n0 n0) 1 40 (turned 12 0)
-  pub offset-near : Draws (shiftedBy −1 n0 (label 1 1)) (move n2048·004 n0) 1 40 (drawn 1 0 (0 ∷ []))
+  -- the offset counts: with 4096.00390625 of it (0,0) is too far, with −1 of it 4096.00390625 is near
+  pub offset-12 : Draws (shiftedBy n4096·004 n0 (label 1 1)) (move n0 n0) 1 40 (turned 12 0)
+  pub offset-near : Draws (shiftedBy −1 n0 (label 1 1)) (move n4096·004 n0) 1 40 (drawn 1 0 (0 ∷ []))
   -- drawn without a point, no offset is too far
-  pub empty-far : Draws (shiftedBy n2048·004 n0 (label 1 1)) [] 1 40 (drawn 0 0 (0 ∷ []))
+  pub empty-far : Draws (shiftedBy n4096·004 n0 (label 1 1)) [] 1 40 (drawn 0 0 (0 ∷ []))
   -- ---- transform and offset
   -- K1 from the unit square: twice as wide, moved by (1,0.5), and the offset (0,0.5)
   pub placed :
@@ -192,10 +213,13 @@ pub record Trials : Type 0 where
       Draws (label 1 1) (move n0 n0 ++ line n0 n1 ++ close ++ line n1 n1 ++ line n0 n1 ++ close) 1 40
       (drawn 6 1 (128 ∷ []))
   -- ---- lines and curves
-  -- a long flat edge, (−2048,0) (2048,1) (−2048,1): the crossings are coarse
+  -- a long flat edge, (−2048,0) (2048,1) (−2048,1), and one twice as long: the crossings are coarse
   pub coarse :
       Draws (label 8 1) (move −2048 n0 ++ line n2048 n1 ++ line −2048 n1) 8 40
       (drawn 3 1 (135 ∷ 135 ∷ 135 ∷ 135 ∷ 135 ∷ 135 ∷ 135 ∷ 135 ∷ []))
+  pub coarser :
+      Draws (label 8 1) (move −4096 n0 ++ line n4096 n1 ++ line −4096 n1) 8 40
+      (drawn 3 1 (143 ∷ 143 ∷ 143 ∷ 143 ∷ 143 ∷ 143 ∷ 143 ∷ 143 ∷ []))
   -- a quad, 5×4
   pub a-quad :
       Draws (label 5 4) (move n0 n0 ++ quad n4 n0 n4 n4 ++ line n0 n4 ++ close) 20 90
@@ -376,7 +400,16 @@ pub record Trials : Type 0 where
   pub box-6 : bounds (affine infinite n0 n0 n1 n0 n0) (nulls 65537) ≡ boxRefused 6 0
   pub box-7 : bounds identity (nulls 65537) ≡ boxRefused 7 0
   pub box-8 : bounds identity (move n0 n0 ++ 0x02 ∷ []) ≡ boxRefused 8 1
-  pub box-12 : bounds identity (move n0 n0 ++ line n2048·004 n0) ≡ boxRefused 12 1
+  pub box-12 : bounds identity (move n0 n0 ++ line n4096·004 n0) ≡ boxRefused 12 1
+  -- 4096 passes in every point, 4096.00390625 in no control point, on either axis and of either sign
+  pub box-near :
+      bounds identity (move n4096 −4096 ++ quad −4096 n4096 n0 n0 ++ curve −4096 −4096 n4096 n4096 n0 n0)
+      ≡ box −4096 −4096 n4096 n4096
+  pub box-control-12 :
+      (bounds identity (move n0 n0 ++ quad −4096·004 n0 n0 n0) ≡ boxRefused 12 1)
+      × (bounds identity (move n0 n0 ++ quad n0 n4096·004 n0 n0) ≡ boxRefused 12 1)
+      × (bounds identity (move n0 n0 ++ curve n0 −4096·004 n0 n0 n0 n0) ≡ boxRefused 12 1)
+      × (bounds identity (move n0 n0 ++ curve n0 n0 n4096·004 n0 n0 n0) ≡ boxRefused 12 1)
   -- a zero keeps its sign where tx and ty are −0; of 0 and −0 each side keeps the first
   pub box-zero : bounds still (move −0 −0) ≡ box −0 −0 −0 −0
   pub box-tie : bounds still (move n0 n0 ++ line −0 −0) ≡ box n0 n0 n0 n0
@@ -390,24 +423,33 @@ pub record Trials : Type 0 where
   pub place-left :
       placement BottomLeft identity (at n0 n0) (move −0·5 −2 ++ line n0·25 −1)
       ≡ lies n1 n2 (negsuc 0) (negsuc 0) 2 1
-  -- floats up to 2048.0037 pass
+  -- floats up to 4096.0034 pass
   pub place-farthest :
-      placement TopLeft identity (at n0 n0) (move −2048·0037 −2048·0037 ++ line n2048·0037 n2048·0037)
-      ≡ lies n2049 n2049 (negsuc 2048) (negsuc 2048) 4098 4098
+      placement TopLeft identity (at n0 n0) (move −4096·0034 −4096·0034 ++ line n4096·0034 n4096·0034)
+      ≡ lies n4097 n4097 (negsuc 4096) (negsuc 4096) 8194 8194
   -- an empty list at (0.5,0.5): 1×1, the new offset is −0, −0; the top is 0, and 1 from the bottom left
   pub place-empty : placement TopLeft identity (at n0·5 n0·5) [] ≡ lies −0 −0 (pos 0) (pos 0) 1 1
   pub place-empty-up : placement BottomLeft identity (at n0·5 n0·5) [] ≡ lies −0 −0 (pos 0) (pos 1) 1 1
-  -- its offset alone passes the point rule at 2048 and not at 2048.00390625
-  pub place-empty-far : placement TopLeft identity (at n2048 n0) [] ≡ lies −2048 −0 (pos 2048) (pos 0) 0 0
-  pub place-empty-12 : placement BottomLeft identity (at n2048·004 n0) [] ≡ placeRefused 12 0
-  pub place-empty-12-y : placement BottomLeft identity (at n0 −2048·004) [] ≡ placeRefused 12 0
+  -- its offset alone passes the point rule at 4096 and not at 4096.00390625
+  pub place-empty-far : placement TopLeft identity (at n4096 n0) [] ≡ lies −4096 −0 (pos 4096) (pos 0) 0 0
+  pub place-empty-12 : placement BottomLeft identity (at n4096·004 n0) [] ≡ placeRefused 12 0
+  pub place-empty-12-y : placement BottomLeft identity (at n0 −4096·004) [] ≡ placeRefused 12 0
+  -- as box-near and box-control-12
+  pub place-near-all :
+      placement TopLeft identity (at n0 n0) (move n4096 −4096 ++ quad −4096 n4096 n0 n0 ++ curve −4096 −4096 n4096 n4096 n0 n0)
+      ≡ lies n4096 n4096 (negsuc 4095) (negsuc 4095) 8192 8192
+  pub place-control-12 :
+      (placement TopLeft identity (at n0 n0) (move n0 n0 ++ quad −4096·004 n0 n0 n0) ≡ placeRefused 12 1)
+      × (placement TopLeft identity (at n0 n0) (move n0 n0 ++ quad n0 n4096·004 n0 n0) ≡ placeRefused 12 1)
+      × (placement TopLeft identity (at n0 n0) (move n0 n0 ++ curve n0 −4096·004 n0 n0 n0 n0) ≡ placeRefused 12 1)
+      × (placement TopLeft identity (at n0 n0) (move n0 n0 ++ curve n0 n0 n4096·004 n0 n0 n0) ≡ placeRefused 12 1)
   -- 6 to 12
   pub place-6 : placement TopLeft identity (at n0 infinite) (nulls 65537) ≡ placeRefused 6 0
   pub place-7 : placement TopLeft identity (at n0 n0) (nulls 65537) ≡ placeRefused 7 0
   pub place-9 : placement TopLeft identity (at n0 n0) (move n0 n0 ++ 0x02 ∷ 0x00 ∷ 0x06 ∷ 0x00 ∷ []) ≡ placeRefused 9 1
   -- a point is judged with the offset added
-  pub place-12 : placement TopLeft identity (at n1 n0) (move n2048 n0) ≡ placeRefused 12 0
-  pub place-near : placement TopLeft identity (at −1 n0) (move n2048·004 n0) ≡ lies −2047 −0 (pos 2047) (pos 0) 1 0
+  pub place-12 : placement TopLeft identity (at n1 n0) (move n4096 n0) ≡ placeRefused 12 0
+  pub place-near : placement TopLeft identity (at −1 n0) (move n4096·004 n0) ≡ lies −4095 −0 (pos 4095) (pos 0) 1 0
 
 pub trials : Trials
 unfolding drawInBands bandsFrom
@@ -420,6 +462,9 @@ trials = record {
   high = refl;
   too-wide = refl;
   too-high = refl;
+  first-corners = refl;
+  last-corners = refl;
+  last-row = refl;
   low-pitch = refl;
   high-pitch = refl;
   too-high-pitch = refl;
@@ -477,8 +522,11 @@ trials = record {
   earlier-12 = refl;
   first-12-13 = refl;
   near = refl;
+  near-corners = refl;
   far-x = refl;
   far-y = refl;
+  far-left = refl;
+  far-below = refl;
   near-cut = refl;
   nan-12 = refl;
   infinite-12 = refl;
@@ -498,6 +546,7 @@ trials = record {
   open-move = refl;
   after-close = refl;
   coarse = refl;
+  coarser = refl;
   a-quad = refl;
   a-cubic = refl;
   band-up = refl;
@@ -551,6 +600,8 @@ trials = record {
   box-7 = refl;
   box-8 = refl;
   box-12 = refl;
+  box-near = refl;
+  box-control-12 = (refl, refl, refl, refl);
   box-zero = refl;
   box-tie = refl;
   box-tie-turned = refl;
@@ -565,6 +616,8 @@ trials = record {
   place-empty-far = refl;
   place-empty-12 = refl;
   place-empty-12-y = refl;
+  place-near-all = refl;
+  place-control-12 = (refl, refl, refl, refl);
   place-6 = refl;
   place-7 = refl;
   place-9 = refl;

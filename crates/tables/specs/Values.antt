@@ -23,10 +23,10 @@ use Rattle.paper.specs.Cells.{Pair, pairAt, lifted, spotIn, marks, stored, cell
 use Rattle.paper.specs.Bytes.{coverUpTo, areaAt, value, byteOf}
 use Rattle.paper.specs.Drawing.{pool, bandsFrom}
 use Rattle.paper.specs.Placing.{floor, ceil}
-use Rattle.tables.specs.Lists.{−2048·004, −2048, −3, −1·0005, −1, −0·999, −0·5, −0·0039, −0·003, n0}
+use Rattle.tables.specs.Lists.{−4096·004, −4096, −3, −1·0005, −1, −0·999, −0·5, −0·0039, −0·003, n0}
 use Rattle.tables.specs.Lists.{−0, n0·0001, n0·5, n0·999, n1, n1·0002, n2, n3, n4, n5, n6, n7, n8, n9}
 use Rattle.tables.specs.Lists.{n10, n11, n12, n13, n14, n17, n19, n31, n39, n46, n58, n94, n117, n140}
-use Rattle.tables.specs.Lists.{n197, n2048, n2048·0037, n2048·004, n16777216, infinite, notNumber}
+use Rattle.tables.specs.Lists.{n197, n2048, n4096, n4096·0034, n4096·004, n16777216, infinite, notNumber}
 use Rattle.tables.specs.Lists.{affine, banded, label, under, shiftedBy}
 
 abbrev below : ℕ → ℤ  -- −n
@@ -43,6 +43,15 @@ odd = spot (pos 1) (below 1)
 
 abbrev even : Spot
 even = spot (pos 2) (pos 0)
+
+abbrev far-corner : Spot  -- as far from (0,0) as a point may lie: (−4096,−4096), (4096,−4096), (−4096,4096)
+far-corner = spot (below 1048576) (below 1048576)
+
+abbrev far-right : Spot
+far-right = spot (pos 1048576) (below 1048576)
+
+abbrev far-below : Spot
+far-below = spot (below 1048576) (pos 1048576)
 
 abbrev middle : Label  -- the band [1, 3) of four rows
 middle = banded NonZero false 4 4 4 1 3
@@ -116,18 +125,18 @@ pub record Values : Type 0 where
   pub the-identity : identity ≡ affine n1 n0 n0 n1 n0 n0
   pub flipped : combine identity (scale (float −1) (float n1)) ≡ affine −1 n0 n0 n1 n0 n0
   -- ---- 24.8 numbers and cells
-  -- 256 times a float, cut toward zero: 2048, 2048.00390625, −0.003, −0.00390625, ±0.999, −0
+  -- 256 times a float, cut toward zero: 4096, 4096.00390625, −0.003, −0.00390625, ±0.999, −0
   pub cut :
-      (fixedOf (float n2048) ≡ pos 524288) × (fixedOf (float n2048·004) ≡ pos 524289)
+      (fixedOf (float n4096) ≡ pos 1048576) × (fixedOf (float n4096·004) ≡ pos 1048577)
       × (fixedOf (float −0·003) ≡ pos 0) × (fixedOf (float −0·0039) ≡ below 1)
       × (fixedOf (float n0·999) ≡ pos 255) × (fixedOf (float −0·999) ≡ below 255) × (fixedOf (float −0) ≡ pos 0)
-  -- within 2,048 pixels
-  pub near-2048 :
-      (near (float n2048) ≡ true) × (near (float n2048·0037) ≡ true) × (near (float n2048·004) ≡ false)
-      × (near (float −2048) ≡ true) × (near (float −2048·004) ≡ false) × (near (float infinite) ≡ false)
+  -- within 4,096 pixels
+  pub near-4096 :
+      (near (float n4096) ≡ true) × (near (float n4096·0034) ≡ true) × (near (float n4096·004) ≡ false)
+      × (near (float −4096) ≡ true) × (near (float −4096·004) ≡ false) × (near (float infinite) ≡ false)
       × (near (float notNumber) ≡ false)
   -- both parts
-  pub both-near : (passes (at n0 n0) ≡ true) × (passes (at n2048·004 n0) ≡ false) × (passes (at n0 n2048·004) ≡ false)
+  pub both-near : (passes (at n0 n0) ≡ true) × (passes (at n4096·004 n0) ≡ false) × (passes (at n0 n4096·004) ≡ false)
   -- the cell of −1 is −1 and its fraction 255
   pub cells :
       (cell (below 1) ≡ below 1) × (cell (below 256) ≡ below 1) × (cell (below 257) ≡ below 2)
@@ -225,7 +234,7 @@ pub record Values : Type 0 where
   pub doubled :
       (curves.doublings mostDoublings 64 ≡ 0) × (curves.doublings mostDoublings 65 ≡ 1)
       × (curves.doublings mostDoublings 256 ≡ 1) × (curves.doublings mostDoublings 259 ≡ 1)
-      × (curves.doublings mostDoublings 260 ≡ 2) × (curves.doublings mostDoublings 2097152 ≡ 8)
+      × (curves.doublings mostDoublings 260 ≡ 2) × (curves.doublings mostDoublings 4194304 ≡ 8)
   -- how far the control point is off, on the worse axis
   pub bends :
       (curves.bend (spot (pos 0) (pos 0)) (spot (pos 5) (below 40)) (spot (pos 3) (pos 1)) ≡ 81)
@@ -267,11 +276,8 @@ pub record Values : Type 0 where
       (spot (pos 200) (below 207)) (spot (below 3) (pos 5))
       ≡ spot (pos 125) (below 26) ∷ spot (pos 191) (pos 104) ∷ spot (pos 168) (pos 247)
       ∷ spot (pos 33) (pos 255) ∷ []
-  -- as curved as one can be: halved 8 times over
-  pub most-lines :
-      length (curves.cubicPoints mostSplits (spot (pos 524288) (pos 0)) (spot (below 524288) (pos 0))
-      (spot (below 524288) (pos 0)) (spot (pos 524288) (pos 0)))
-      ≡ 256
+  -- as curved as one can be: halved 9 times over, since 8 times would give no more than 256 lines
+  pub most-lines : length (curves.cubicPoints mostSplits far-corner far-right far-below far-corner) ≡ 370
   -- in the band [1, 3): all of a quad in row 3; its control point not; all in row 0
   pub quad-past : curves.quad middle (spot (pos 0) (pos 768)) (spot (pos 10) (pos 800)) (spot (pos 20) (pos 768)) ≡ []
   pub quad-dips :
@@ -441,7 +447,7 @@ values = record {
   the-identity = refl;
   flipped = refl;
   cut = (refl, refl, refl, refl, refl, refl, refl);
-  near-2048 = (refl, refl, refl, refl, refl, refl, refl);
+  near-4096 = (refl, refl, refl, refl, refl, refl, refl);
   both-near = (refl, refl, refl);
   cells = (refl, refl, refl, refl, refl, refl);
   fractions = (refl, refl, refl, refl, refl, refl);

@@ -1,10 +1,11 @@
 -- The bands are painted one after the other, each into its part of the mask.
-use Prim.Native.Nat.{ℕ, _+_, _*_, _-_, _^_, _≤_, _<_}
+use Prim.Native.Nat.{ℕ, _+_, _*_, _-_, _≤_, _<_}
 use mathlib.Core.Path.{_≡_, refl, ap, _∙_}
 use native.Mathlib.Omega.{arith}
 use mathlib.Core.List.{List}
 use lib.ListN.{length}
 use Rattle.label.specs.declared.Label.{Label}
+use Rattle.label.specs.Checks.{mostPixels, mostPitch}
 use Rattle.bands.specs.Steps.{lineOf}
 use Rattle.bands.proofs.Rows.{band-sized}
 use Rattle.bands.proofs.Painting.{Painting, painting-none, part-in, part-near, part-lent, painting-again, painted-all}
@@ -36,7 +37,7 @@ to c = omega (arith, c .band-end .ensures)
 -- where its part ends
 record Room (l : Label) (at next line : ℕ) (mask : List ℕ) : Type 0 where
   inside : l .pitch * line + (l .pitch * (next - at - 1) + l .width) ≤ length mask
-  near : l .pitch * line + (l .pitch * (next - at - 1) + l .width) ≤ 2 ^ 28
+  near : l .pitch * line + (l .pitch * (next - at - 1) + l .width) ≤ mostPitch * mostPixels
 
 room : (c : tie.After-line-of Inv-loop μ-loop) → let w = c .before .before .before .before in Room (w .before .before .before .before .args .l) (w .loop .at) (c .before .band-end .result) (c .line-of .result) (w .loop .mask)
 room c =
