@@ -43,7 +43,7 @@
  *
  * A point (x, y) becomes x' = (x*xx + y*yx) + tx, y' = (x*xy + y*yy) + ty, every product and every
  * sum rounded to a float, and is moved by the offset. Both parts must then be finite and, times 256
- * and cut toward zero, at most 524288 either way: 2048.0 passes and 2048.00390625 fails. This is
+ * and cut toward zero, at most 1048576 either way: 4096.0 passes and 4096.00390625 fails. This is
  * the point rule. Coordinates count pixels: pixel (0, 0) is the square from (0,0) to (1,1).
  *
  *
@@ -115,12 +115,12 @@ extern "C" {
 
 /* The version of this face. */
 #define MZ_VERSION_MAJOR 0
-#define MZ_VERSION_MINOR 2
+#define MZ_VERSION_MINOR 3
 #define MZ_VERSION_PATCH 0
-#define MZ_VERSION "0.2.0"
+#define MZ_VERSION "0.3.0"
 
 /* The largest width and height, in pixels. */
-#define MZ_MOST_SIDE 2048
+#define MZ_MOST_SIDE 4096
 /* The largest pitch, in bytes. */
 #define MZ_MOST_PITCH 65536
 /* The longest path list, in bytes. */
@@ -178,7 +178,7 @@ enum {
 static inline const char *mz_words(uint32_t number) {
     switch (number) {
     case MZ_ACCEPTED: return "accepted";
-    case MZ_SIZE: return "the width or the height is above 2,048 pixels";
+    case MZ_SIZE: return "the width or the height is above 4,096 pixels";
     case MZ_BAND: return "the band does not lie within the label";
     case MZ_PITCH: return "the pitch is below the width or above 65,536 bytes";
     case MZ_MASK: return "the mask is too short for the band";
@@ -190,7 +190,7 @@ static inline const char *mz_words(uint32_t number) {
     case MZ_LENGTH: return "the record's length is not its kind's";
     case MZ_START: return "the first record is not a MoveTo";
     case MZ_POINT:
-        return "a point is NaN, infinite, or 1/256 of a pixel or more beyond 2,048 from zero";
+        return "a point is NaN, infinite, or 1/256 of a pixel or more beyond 4,096 from zero";
     case MZ_ROOM: return "the drawing needs more places than the workspace has room for";
     default: return "an unknown refusal";
     }
@@ -343,7 +343,7 @@ MzBounds mz_bounds(const uint8_t *list, size_t list_len, MzTransform transform);
  *
  * Refuses with 6 to 12, the point rule judging the points with the offset added. An empty list has
  * the box of mz_bounds, and 12 with index 0 says that the offset itself fails the point rule.
- * A placement can be larger than a drawing may be, up to 4098 x 4098: mz_draw then says 1.
+ * A placement can be larger than a drawing may be, up to 8194 x 8194: mz_draw then says 1.
  *
  * To draw what was placed, begin with mz_label(width, height) of these and give it the offset
  * (offset_x, offset_y); where the list was placed with an offset (x, y) of its own, (x + offset_x,

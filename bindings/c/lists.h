@@ -54,27 +54,46 @@ static List one_move(float x, float y) {
 }
 
 /* In the order of K1: right along the top first. */
+static void put_rectangle(List *list, float left, float top, float right, float bottom) {
+    move_to(list, left, top);
+    line_to(list, right, top);
+    line_to(list, right, bottom);
+    line_to(list, left, bottom);
+    close_path(list);
+}
+
 static List rectangle_of(float left, float top, float right, float bottom) {
-    List list = one_move(left, top);
-    line_to(&list, right, top);
-    line_to(&list, right, bottom);
-    line_to(&list, left, bottom);
-    close_path(&list);
+    List list = empty_list();
+    put_rectangle(&list, left, top, right, bottom);
     return list;
 }
 
 /* K1's rectangle. */
 static List rectangle(void) { return rectangle_of(1, 1, 3, 2); }
 
+/* How many floats a record of each kind has, up to CurveTo; there is no kind 0. */
+static const unsigned floats_of[] = {0, 2, 2, 4, 6};
+
+/* MoveTo (0, 0) and a record of this kind, of whose floats one is `far` and the others are 0. */
+static List one_far_float(unsigned kind, unsigned far_one, float far) {
+    List list = one_move(0, 0);
+    put_u16(&list, 2 + 4 * floats_of[kind]);
+    put_u16(&list, kind);
+    for (unsigned at = 0; at < floats_of[kind]; at += 1) {
+        put_float(&list, at == far_one ? far : 0);
+    }
+    return list;
+}
+
 /*
- * Eight rows of 2048 columns with a place in each: lines up and down, of 128 columns each, so steep
- * that none leaves a column without cover.
+ * Four rows of 4096 columns with a place in each, and with left = -1 one in the column before them:
+ * lines up and down, of 128 columns each, so steep that none leaves a column without cover.
  */
-static List every_place_of_eight_rows(void) {
+static List every_place_of_four_rows(float left) {
     List list = empty_list();
-    for (int row = 0; row < 8; row += 1) {
-        move_to(&list, 0, (float)row);
-        for (int part = 1; part <= 16; part += 1) {
+    for (int row = 0; row < 4; row += 1) {
+        move_to(&list, left, (float)row);
+        for (int part = 1; part <= 32; part += 1) {
             float down = part % 2 == 1 ? 255.0f / 256 : 0;
             line_to(&list, (float)(128 * part), (float)row + down);
         }

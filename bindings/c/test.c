@@ -291,7 +291,7 @@ static void label_of_zeros_draws_nothing(void) {
 static void refusals_have_words(void) {
     static const char *const words[] = {
         "accepted",
-        "the width or the height is above 2,048 pixels",
+        "the width or the height is above 4,096 pixels",
         "the band does not lie within the label",
         "the pitch is below the width or above 65,536 bytes",
         "the mask is too short for the band",
@@ -302,7 +302,7 @@ static void refusals_have_words(void) {
         "the record's kind is not 1 to 5",
         "the record's length is not its kind's",
         "the first record is not a MoveTo",
-        "a point is NaN, infinite, or 1/256 of a pixel or more beyond 2,048 from zero",
+        "a point is NaN, infinite, or 1/256 of a pixel or more beyond 4,096 from zero",
         "the drawing needs more places than the workspace has room for",
         "an unknown refusal",
     };
@@ -427,6 +427,23 @@ static void k11_placement(void) {
     check(bounds.max_x == 3.25f && bounds.max_y == 2, "K11: the box's maximum");
 }
 
+/* From as far as a point may lie to as far the other way: larger than a drawing may be. */
+static void the_largest_placement(void) {
+    const float c = 4096.00341796875f;
+    List list = one_move(-c, -c);
+    line_to(&list, c, c);
+    MzPlacement placed = mz_placement(list.bytes, list.len, mz_identity(), 0, 0, false);
+    check(placed.number == MZ_ACCEPTED, "largest place: number");
+    check(placed.width == 8194 && placed.height == 8194, "largest place: size");
+    check(placed.left == -4097 && placed.top == -4097, "largest place: left and top");
+    check(placed.offset_x == 4097 && placed.offset_y == 4097, "largest place: offset");
+    MzPlacement from_bottom = mz_placement(list.bytes, list.len, mz_identity(), 0, 0, true);
+    check(from_bottom.top == 4097, "largest place from the bottom: top");
+    MzLabel label = mz_label(placed.width, placed.height);
+    MzDrawn drawn = mz_draw(list.bytes, list.len, label, NULL, 0, NULL, 0);
+    check(drawn.number == MZ_SIZE, "largest place: drawn");
+}
+
 /* ---- nothing lent: any pointer will do */
 
 /* K12 and its kin with this list, whose length is 0. */
@@ -525,8 +542,8 @@ static void sizes_and_floats_are_refused(void) {
     expect_refusal(call, MZ_FLOAT, 0);
 }
 
-/* As wide and as long as may be; the longest list has a kind of 0, and one byte more is 7. */
-static void the_most_is_accepted(void) {
+/* The longest list has a kind of 0, and one byte more is 7. */
+static void the_longest_list_is_read(void) {
     static uint8_t bytes[MZ_MOST_LIST + 1];
     List none = empty_list();
     Call call = call_of(&none, 4, 3);
@@ -535,29 +552,85 @@ static void the_most_is_accepted(void) {
     expect_refusal(call, MZ_KIND, 0);
     call.list_len = MZ_MOST_LIST + 1;
     expect_refusal(call, MZ_LIST, 0);
-    MzLabel label = mz_label(0, MZ_MOST_SIDE);
-    label.pitch = MZ_MOST_PITCH;
-    label.end = 1;
-    call = call_for(&none, label);
-    MzDrawn drawn = draw(&call);
-    check(answers(drawn, 0, 0), "the largest height and pitch");
+}
+
+/* An empty list, at once and row by row. */
+static void expect_accepted(MzLabel label, const char *what) {
     static uint8_t mask[MZ_MOST_SIDE];
-    drawn = mz_draw(NULL, 0, mz_label(MZ_MOST_SIDE, 1), mask, sizeof mask, call.words, 1);
-    check(answers(drawn, 0, 0), "the largest width");
+    static uint32_t words[MZ_MOST_SIDE];
+    MzDrawn drawn = mz_draw(NULL, 0, label, mask, sizeof mask, words, LENGTH(words));
+    check(answers(drawn, 0, 0), what);
+    drawn = mz_draw_in_bands(NULL, 0, label, 1, mask, sizeof mask, words, LENGTH(words));
+    check(answers(drawn, 0, 0), what);
+}
+
+static void the_largest_sizes_are_accepted(void) {
+    expect_accepted(mz_label(MZ_MOST_SIDE, 1), "the largest width");
+    expect_accepted(mz_label(1, MZ_MOST_SIDE), "the largest height");
+    MzLabel label = mz_label(4, 1);
+    label.pitch = MZ_MOST_PITCH;
+    expect_accepted(label, "the largest pitch");
+}
+
+/* A square of one pixel in each corner; right of the last column no place is stored. */
+static void the_largest_label_is_drawn(void) {
+    enum { SIDE = MZ_MOST_SIDE, LAST = SIDE - 1 };
+    static uint8_t mask[SIDE * SIDE];
+    static uint8_t corners[SIDE * SIDE];
+    static uint32_t words[MZ_WORKSPACE_WORDS(SIDE, 6)];
+    List list = empty_list();
+    put_rectangle(&list, 0, 0, 1, 1);
+    put_rectangle(&list, LAST, 0, SIDE, 1);
+    put_rectangle(&list, 0, LAST, 1, SIDE);
+    put_rectangle(&list, LAST, LAST, SIDE, SIDE);
+    corners[0] = corners[LAST] = corners[SIDE * LAST] = corners[SIDE * SIDE - 1] = 255;
+    memset(mask, 0xA5, sizeof mask);
+    MzLabel label = mz_label(SIDE, SIDE);
+    MzDrawn drawn = mz_draw(list.bytes, list.len, label, mask, sizeof mask, words, LENGTH(words));
+    check(answers(drawn, 20, 6), "the largest label: answer");
+    check(memcmp(mask, corners, sizeof mask) == 0, "the largest label: mask");
+}
+
+/* The largest label's last row within the largest rectangle, whose left side is column -1's. */
+static void the_last_row_is_filled(void) {
+    static uint8_t mask[MZ_MOST_SIDE];
+    static uint8_t full[MZ_MOST_SIDE];
+    uint32_t words[MZ_WORKSPACE_WORDS(1, 1)];
+    List list = rectangle_of(-4096, -4096, 4096, 4096);
+    MzLabel label = mz_label(MZ_MOST_SIDE, MZ_MOST_SIDE);
+    label.first = MZ_MOST_SIDE - 1;
+    memset(full, 255, sizeof full);
+    MzDrawn drawn = mz_draw(list.bytes, list.len, label, mask, sizeof mask, words, LENGTH(words));
+    check(answers(drawn, 5, 1), "the last row: answer");
+    check(memcmp(mask, full, sizeof mask) == 0, "the last row: mask");
 }
 
 /* As many places as a pool may have; with one more it is 13, however many words there are. */
 static void the_most_cells_are_drawn(void) {
-    static uint8_t mask[MZ_MOST_SIDE * 9];
-    static uint32_t words[MZ_WORKSPACE_WORDS(9, MZ_MOST_CELLS + 1)];
-    MzLabel label = mz_label(MZ_MOST_SIDE, 9);
-    List list = every_place_of_eight_rows();
-    move_to(&list, 0, 7);
+    static uint8_t mask[MZ_MOST_SIDE * 5];
+    static uint32_t words[MZ_WORKSPACE_WORDS(5, MZ_MOST_CELLS + 1)];
+    MzLabel label = mz_label(MZ_MOST_SIDE, 5);
+    List list = every_place_of_four_rows(0);
+    move_to(&list, 0, 3);
     MzDrawn drawn = mz_draw(list.bytes, list.len, label, mask, sizeof mask, words, LENGTH(words));
-    check(answers(drawn, 137, MZ_MOST_CELLS), "the most cells");
-    move_to(&list, 0, 8);
+    check(answers(drawn, 133, MZ_MOST_CELLS), "the most cells");
+    move_to(&list, 0, 4);
     drawn = mz_draw(list.bytes, list.len, label, mask, sizeof mask, words, LENGTH(words));
     check(drawn.number == MZ_ROOM, "one cell more than the most");
+}
+
+/* Rows with as many places as there can be: three of them fit into a pool, and four do not. */
+static void the_fullest_rows_fit_by_three(void) {
+    static uint8_t mask[MZ_MOST_SIDE * 4];
+    static uint32_t words[MZ_BANDS_WORDS(4, 4, MZ_MOST_CELLS)];
+    MzLabel label = mz_label(MZ_MOST_SIDE, 4);
+    List list = every_place_of_four_rows(-1);
+    MzDrawn drawn =
+        mz_draw_in_bands(list.bytes, list.len, label, 4, mask, sizeof mask, words, LENGTH(words));
+    check(drawn.number == MZ_ROOM, "the fullest rows by four");
+    drawn = mz_draw_in_bands(list.bytes, list.len, label, 3, mask, sizeof mask, words,
+                             MZ_BANDS_WORDS(4, 3, 3 * (MZ_MOST_SIDE + 1)));
+    check(answers(drawn, 132, 4 * (MZ_MOST_SIDE + 1)), "the fullest rows by three");
 }
 
 /* One record behind K1's five, or alone. */
@@ -588,19 +661,56 @@ static void records_are_refused(void) {
     close_path(&list);
     expect_record_refused(&list, MZ_START, 0);
     list = rectangle();
-    line_to(&list, 2048.00390625f, 0);
+    line_to(&list, 4096.00390625f, 0);
     expect_record_refused(&list, MZ_POINT, 5);
     list = rectangle();
     line_to(&list, NAN, 0);
     expect_record_refused(&list, MZ_POINT, 5);
 }
 
-/* 12's words are exact: 15/4096 of a pixel beyond 2,048 passes. */
-static void point_just_passes(void) {
-    List list = one_move(2048.003662109375f, 0);
-    Call call = call_of(&list, 4, 3);
+static void expect_list_accepted(const List *list) {
+    Call call = call_of(list, 4, 3);
     MzDrawn drawn = draw(&call);
-    check(answers(drawn, 1, 0), "2048.003662109375 passes");
+    check(drawn.number == MZ_ACCEPTED && drawn.records == 2, "drawing: accepted");
+    MzBounds bounds = mz_bounds(list->bytes, list->len, mz_identity());
+    check(bounds.number == MZ_ACCEPTED, "bounds: accepted");
+    MzPlacement placed = mz_placement(list->bytes, list->len, mz_identity(), 0, 0, false);
+    check(placed.number == MZ_ACCEPTED, "placement: accepted");
+}
+
+/* Each part of each point of each kind of record by itself: accepted, or 12. */
+static void expect_far_floats(float far, bool accepted) {
+    for (unsigned kind = 1; kind < LENGTH(floats_of); kind += 1) {
+        for (unsigned at = 0; at < floats_of[kind]; at += 1) {
+            List list = one_far_float(kind, at, far);
+            if (accepted) {
+                expect_list_accepted(&list);
+            } else {
+                expect_record_refused(&list, MZ_POINT, 1);
+            }
+        }
+    }
+}
+
+/* 12's words are exact: 7/2048 of a pixel beyond 4,096, the last float before 1/256, passes. */
+static void every_point_is_judged(void) {
+    for (int sign = -1; sign <= 1; sign += 2) {
+        expect_far_floats(sign * 4096.0f, true);
+        expect_far_floats(sign * 4096.00341796875f, true);
+        expect_far_floats(sign * 4096.00390625f, false);
+    }
+}
+
+/* With the offset added a point may be too far; bounds has no offset. */
+static void points_are_judged_with_the_offset(void) {
+    List list = one_move(4096, -4096);
+    MzLabel label = mz_label(4, 3);
+    label.offset_y = -1.0f / 256;
+    expect_refusal(call_for(&list, label), MZ_POINT, 0);
+    MzPlacement placed = mz_placement(list.bytes, list.len, mz_identity(), 1.0f / 256, 0, false);
+    check(placed.number == MZ_POINT, "placement: the offset is added");
+    MzBounds bounds = mz_bounds(list.bytes, list.len, mz_identity());
+    check(bounds.number == MZ_ACCEPTED, "bounds: no offset is added");
 }
 
 static void rules_examples(void) {
@@ -610,15 +720,21 @@ static void rules_examples(void) {
     bands_need_less_room();
     k8_lone_move();
     k11_placement();
+    the_largest_placement();
     length_0_takes_any_pointer();
 }
 
 static void refusals(void) {
     sizes_and_floats_are_refused();
-    the_most_is_accepted();
+    the_longest_list_is_read();
+    the_largest_sizes_are_accepted();
+    the_largest_label_is_drawn();
+    the_last_row_is_filled();
     the_most_cells_are_drawn();
+    the_fullest_rows_fit_by_three();
     records_are_refused();
-    point_just_passes();
+    every_point_is_judged();
+    points_are_judged_with_the_offset();
 }
 
 int main(int argc, char **argv) {

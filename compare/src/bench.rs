@@ -17,7 +17,8 @@ use compare::flags::Flags;
 use passes::{Pass, ZenoPass};
 use samples::Group;
 
-pub const USAGE: &str = "compare bench [--labels N] [--rounds N] [--only text|curves|lines|rows]";
+pub const USAGE: &str =
+    "compare bench [--labels N] [--rounds N] [--only text|curves|lines|largest|rows]";
 
 pub fn bench(words: &[String]) -> Result<(), Stopped> {
     let known = ["--labels", "--rounds", "--only"];
@@ -32,7 +33,7 @@ pub fn bench(words: &[String]) -> Result<(), Stopped> {
         .collect();
     let in_rows = is_asked("rows");
     if groups.is_empty() && !in_rows {
-        let what = "bench --only takes one of text, curves, lines, rows".to_string();
+        let what = "bench --only takes one of text, curves, lines, largest, rows".to_string();
         return Err(Stopped::Asked(what));
     }
     if !groups.is_empty() {

@@ -9,7 +9,9 @@ mod way;
 mod wild;
 
 pub use filled::{every_order, long_rows_filled, orders_in_all, rows_filled};
-pub use limits::{at_the_cap, at_the_limits, in_bands_at_the_cap, with_just_room};
+pub use limits::{
+    at_the_cap, at_the_limits, in_bands_at_the_cap, in_bands_of_full_rows, with_just_room,
+};
 pub use old::{soil, soil_words};
 pub use shown::floats_shown;
 pub use simpler::simpler_floats;
@@ -20,6 +22,7 @@ use crate::list;
 use crate::numbers::{Dice, Palette};
 use crate::oracle::{Command, Fill, Point, Transform};
 use crate::paths::{damaged, Character};
+use crate::reading::{REACH, SIDE};
 
 /// All that a drawing is lent and told; the band is [first, end).
 #[derive(Clone, Debug)]
@@ -140,8 +143,8 @@ pub fn at_a_boundary(dice: &mut Dice) -> Drawing {
 fn move_to_a_boundary(drawing: &mut Drawing, dice: &mut Dice) {
     const FAR: usize = usize::MAX;
     match dice.below(10) {
-        0 => drawing.width = dice.pick(&[0, 2047, 2048, 2049, FAR]),
-        1 => drawing.height = dice.pick(&[drawing.end, 2048, 2049, FAR]),
+        0 => drawing.width = dice.pick(&[0, SIDE - 1, SIDE, SIDE + 1, FAR]),
+        1 => drawing.height = dice.pick(&[drawing.end, SIDE, SIDE + 1, FAR]),
         2 => drawing.first = dice.pick(&[drawing.end, drawing.end + 1, FAR]),
         3 => drawing.end = dice.pick(&[drawing.first, drawing.height, drawing.height + 1, FAR]),
         4 => drawing.pitch = near(drawing.width, &[0, 65_536, 65_537, FAR], dice),
@@ -197,10 +200,10 @@ fn longest(dice: &mut Dice) -> Vec<u8> {
 /// very seldom both ways.
 fn size(dice: &mut Dice) -> (usize, usize) {
     match dice.below(400) {
-        0 if dice.one_in(20) => (2048, 2048),
+        0 if dice.one_in(20) => (SIDE, SIDE),
         0 => (400, 120),
-        1..=8 => (dice.pick(&[2047, 2048]), dice.below(4)),
-        9..=16 => (dice.below(4), dice.pick(&[2047, 2048])),
+        1..=8 => (dice.pick(&[SIDE - 1, SIDE]), dice.below(4)),
+        9..=16 => (dice.below(4), dice.pick(&[SIDE - 1, SIDE])),
         17..=90 => (dice.below(64), dice.below(64)),
         _ => (dice.below(9), dice.below(9)),
     }

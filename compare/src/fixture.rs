@@ -23,7 +23,7 @@
 //! | even_odd | 1 | 1 for even-odd, 0 for nonzero |
 //! | up | 1 | 1 for up, 0 for down |
 //! | width, height, pitch, first, end | 5 × 4 | the band is [first, end) |
-//! | words | 4 | how many words are lent, at most 67,584 |
+//! | words | 4 | how many words are lent, at most 69,632 |
 //! | number, index, records, cells | 4 × 4 | the answer |
 //! | mask length | 4 | how many bytes are lent, at most 65,536 |
 //! | whole | 1 | 1: the mask afterwards follows; 0: its checksum follows |
@@ -201,7 +201,7 @@ mod tests {
         for _ in 0..fixture.drawings {
             let [number, words, mask, whole] = reader.drawing();
             *numbers.entry(number).or_default() += 1;
-            assert!(words <= 67_584 && mask <= 65_536, "{words} {mask}");
+            assert!(words <= 69_632 && mask <= 65_536, "{words} {mask}");
             by_checksum += 1 - whole;
         }
         assert_eq!(reader.number(), fixture.placements);

@@ -165,8 +165,10 @@ fn k12_empty_list() {
 #[test]
 fn sizes_at_their_boundaries() {
     let path = rectangle(1.0, 1.0, 3.0, 2.0);
-    assert_eq!(drawn(&path, 2048, 3).number, 0);
-    assert_eq!(refusal(&Drawing::plain(&path, 2049, 3)), (1, 0));
+    assert_eq!(drawn(&path, 4096, 3).number, 0);
+    assert_eq!(refusal(&Drawing::plain(&path, 4097, 3)), (1, 0));
+    assert_eq!(drawn(&path, 4, 4096).number, 0);
+    assert_eq!(refusal(&Drawing::plain(&path, 4, 4097)), (1, 0));
     let mut drawing = Drawing::plain(&path, 4, 3);
     drawing.pitch = 3;
     assert_eq!(refusal(&drawing), (3, 0));
@@ -237,8 +239,8 @@ fn longest_list() {
 #[test]
 fn point_rule() {
     let passes = |x: f32| reading::passes_point_rule(at(x, 0.0));
-    assert!(passes(2048.0) && passes(-2048.0) && passes(2048.0037));
-    assert!(!passes(2048.00390625) && !passes(-2048.00390625));
+    assert!(passes(4096.0) && passes(-4096.0) && passes(4096.0034));
+    assert!(!passes(4096.00390625) && !passes(-4096.00390625));
     for far in [f32::MAX, f32::MIN, -4.9e30, f32::INFINITY, f32::NAN] {
         assert!(!passes(far) && !reading::passes_point_rule(at(0.0, far)));
     }
@@ -268,7 +270,7 @@ fn killed_coordinates() {
 
 #[test]
 fn empty_list_judges_the_offset_in_a_placement_only() {
-    let far = at(2048.00390625, 0.0);
+    let far = at(4096.00390625, 0.0);
     let place = |offset| driver::placement(&[], Transform::IDENTITY, offset, Origin::BottomLeft);
     let refused = Refusal {
         number: 12,
@@ -311,8 +313,42 @@ fn cancelled_sums_stay_a_place() {
 
 #[test]
 fn long_flat_edge_is_coarse() {
-    let path = closed(&[(-2048.0, 0.0), (2048.0, 1.0), (-2048.0, 1.0)]);
-    assert_eq!(drawn(&path, 8, 1).mask[..2], [135, 135]);
+    for (far, byte) in [(2048.0, 135), (4096.0, 143)] {
+        let path = closed(&[(-far, 0.0), (far, 1.0), (-far, 1.0)]);
+        assert_eq!(drawn(&path, 8, 1).mask, [byte; 8]);
+    }
+}
+
+/// Where the port refuses a size or a finite point that is not too far out, zeno draws on.
+#[test]
+fn zeno_goes_on_beyond_the_limits() {
+    let wide = rectangle(0.0, 0.0, 4097.0, 1.0);
+    let painted = oracle::painted(&label(&wide, 4097, 1)).unwrap();
+    assert_eq!(painted.mask, vec![255; 4097]);
+    let far = rectangle(0.0, 0.0, 4096.00390625, 1.0);
+    let painted = oracle::painted(&label(&far, 4, 1)).unwrap();
+    assert_eq!((painted.mask, painted.cells), (vec![255; 4], 1));
+}
+
+/// The largest label: a pixel in each corner, and a rectangle from one end of the point rule to the
+/// other.
+#[test]
+fn largest_label() {
+    let corners = [0.0, 4095.0].map(|x| [0.0, 4095.0].map(|y| rectangle(x, y, x + 1.0, y + 1.0)));
+    let path: Vec<Command> = corners.concat().concat();
+    let outcome = drawn(&path, 4096, 4096);
+    assert_eq!((outcome.number, outcome.records, outcome.cells), (0, 20, 6));
+    let inked: Vec<usize> = (0..4096 * 4096)
+        .filter(|&at| outcome.mask[at] > 0)
+        .collect();
+    assert_eq!(inked, [0, 4095, 4095 * 4096, 4095 * 4096 + 4095]);
+    assert!(inked.iter().all(|&at| outcome.mask[at] == 255));
+    let outcome = drawn(&rectangle(-4096.0, -4096.0, 4096.0, 4096.0), 4096, 4096);
+    assert_eq!(
+        (outcome.number, outcome.records, outcome.cells),
+        (0, 5, 4096)
+    );
+    assert!(outcome.mask.iter().all(|&byte| byte == 255));
 }
 
 /// Boxes as the rule for points has them: no point, an odd last number, ties, NaN, infinity.

@@ -1,7 +1,7 @@
 //! Gives the same inputs to zeno and to the port and compares every answer.
 //!
 //!     compare [--seed S] [--scale N] [--share N] [--only KIND]
-//!     compare bench [--labels N] [--rounds N] [--only text|curves|lines|rows]
+//!     compare bench [--labels N] [--rounds N] [--only text|curves|lines|largest|rows]
 //!     compare fixture OUT
 //!     compare fuzz --seconds N [--seed S]
 //!     compare cells

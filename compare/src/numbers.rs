@@ -1,5 +1,7 @@
 //! Dice with a fixed seed, and numbers of every character drawn from them.
 
+use crate::reading::REACH;
+
 /// Random numbers that are the same in every run: xoshiro256**, seeded by splitmix64.
 pub struct Dice {
     state: [u64; 4],
@@ -115,7 +117,7 @@ impl Palette {
     }
 }
 
-/// Numbers where a rule or the format turns: 1, the point rules' 2048 and 4096, the last number
+/// Numbers where a rule or the format turns: 1, the point rule's 4096 and half of it, the last number
 /// with halves, the last with every whole number, the smallest normal and the largest.
 const TURNS: [f32; 9] = [
     1.0,
@@ -140,10 +142,10 @@ fn plain(dice: &mut Dice) -> f32 {
 
 fn label(dice: &mut Dice) -> f32 {
     match dice.below(4) {
-        0 => dice.between(-4096, 4096) as f32,
-        1 => dice.between(-2048 * 256, 2048 * 256) as f32 / 256.0,
+        0 => dice.between(-REACH, REACH) as f32,
+        1 => dice.between(-256 * REACH, 256 * REACH) as f32 / 256.0,
         2 => dice.between(-10_000_000, 10_000_000) as f32 / 4096.0,
-        _ => full(dice, 117, 138),
+        _ => full(dice, 117, 139),
     }
 }
 

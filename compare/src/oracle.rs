@@ -52,12 +52,13 @@ pub struct Run {
     pub value: u8,
 }
 
-/// The side of the largest label that is asked of zeno.
-pub const SIDE: usize = 4096;
+/// The side of the largest label that is asked of zeno: twice the port's.
+pub const SIDE: usize = 8192;
 
-/// How far a point may lie from zero, in 1/256 of a pixel. Beyond it zeno's products may leave 32
-/// bits and its walk need not end; where the float does not fit an i32, `to_fixed` is undefined.
-pub const REACH: f32 = 1_048_576.0;
+/// How far a point may lie from zero, in 1/256 of a pixel: twice the point rule's limit, less one.
+/// Beyond it zeno's products may leave 32 bits and its walk need not end; where the float does not
+/// fit an i32, `to_fixed` is undefined.
+pub const REACH: f32 = 2_097_151.0;
 
 /// The mask and the number of cells, or nothing where zeno may not be asked.
 pub fn painted(label: &Label) -> Option<Painted> {

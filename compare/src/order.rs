@@ -101,7 +101,7 @@ mod tests {
     use super::*;
     use std::collections::HashSet;
 
-    const COUNTS: [usize; 7] = [0, 1, 2, 3, 8, 31, 2049];
+    const COUNTS: [usize; 7] = [0, 1, 2, 3, 8, 31, 4097];
 
     fn is_every_number(numbers: &[usize], count: usize) -> bool {
         let mut sorted = numbers.to_vec();

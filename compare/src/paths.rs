@@ -9,13 +9,14 @@ mod small;
 mod text;
 
 pub use damaged::damaged;
-pub use filled::Figure;
+pub use filled::{full_rows, Figure};
 pub use large::{large_curves, thin_bar};
 pub use small::{Shape, Small, SMALL};
 pub use text::{address, ADDRESS};
 
 use crate::numbers::Dice;
 use crate::oracle::{Command, Point};
+use crate::reading::REACH;
 
 /// What a path is made to try.
 #[derive(Clone, Copy, Debug, PartialEq)]
@@ -129,7 +130,7 @@ const HAIRS: [f32; 7] = [
 ];
 
 /// The largest number that passes the point rule, and others near it.
-const LIMITS: [f32; 5] = [2048.0, 2048.0037, 2047.9961, 2047.0, 1024.0];
+const LIMITS: [f32; 5] = [4096.0, 4096.0034, 4095.9961, 4095.0, 2048.0];
 
 impl Field {
     fn point(&self, character: Character, dice: &mut Dice) -> Point {
@@ -137,7 +138,7 @@ impl Field {
         match character {
             Character::Edges => Point::new(edge(self.width, dice), edge(self.height, dice)),
             Character::Corners => {
-                let mut whole = |side: i64| dice.between(-2, (side + 2).min(2048)) as f32;
+                let mut whole = |side: i64| dice.between(-2, (side + 2).min(REACH)) as f32;
                 Point::new(whole(self.width), whole(self.height))
             }
             Character::Limits => limit(inside, dice),
@@ -154,14 +155,14 @@ impl Field {
     /// A coordinate on the grid, inside a side of the label or a little outside it.
     fn near(&self, side: i64, dice: &mut Dice) -> f32 {
         let margin = 1 + side / 4;
-        let low = (-margin).max(-2048) * self.fineness;
-        let high = (side + margin).min(2048) * self.fineness;
+        let low = (-margin).max(-REACH) * self.fineness;
+        let high = (side + margin).min(REACH) * self.fineness;
         dice.between(low, high) as f32 / self.fineness as f32
     }
 
     /// How far outside a side; never so far that the point rule refuses it.
     fn beyond(&self, dice: &mut Dice) -> f32 {
-        let most = 2048 - self.width.max(self.height).min(2048);
+        let most = REACH - self.width.max(self.height).min(REACH);
         let steps = dice.between(0, 40.min(most) * self.fineness);
         steps as f32 / self.fineness as f32
     }
@@ -169,7 +170,7 @@ impl Field {
 
 fn edge(side: i64, dice: &mut Dice) -> f32 {
     let whole = dice.pick(&[-1, 0, 0, 1, side - 1, side, side, side + 1]);
-    whole.clamp(-2047, 2047) as f32 + dice.pick(&HAIRS)
+    whole.clamp(1 - REACH, REACH - 1) as f32 + dice.pick(&HAIRS)
 }
 
 /// One part or both as far out as may be.
@@ -185,9 +186,9 @@ fn limit(inside: Point, dice: &mut Dice) -> Point {
 
 fn huge(dice: &mut Dice) -> f32 {
     match dice.below(4) {
-        0 => dice.pick(&[2048.0, -2048.0, 2047.9961, -2047.9961]),
-        1 => dice.between(-2048, 2048) as f32,
-        _ => dice.between(-524_288, 524_288) as f32 / 256.0,
+        0 => dice.pick(&[4096.0, -4096.0, 4095.9961, -4095.9961]),
+        1 => dice.between(-REACH, REACH) as f32,
+        _ => dice.between(-256 * REACH, 256 * REACH) as f32 / 256.0,
     }
 }
 
@@ -226,7 +227,7 @@ fn diagonals(field: &Field, dice: &mut Dice) -> Vec<Command> {
             (1.0, 0.0),
             (0.0, 1.0),
         ]);
-        let kept = |v: f32| v.clamp(-2048.0, 2048.0);
+        let kept = |v: f32| v.clamp(-REACH as f32, REACH as f32);
         at = Point::new(kept(at.x + step * across), kept(at.y + step * along));
         path.push(Command::LineTo(at));
     }
@@ -278,8 +279,8 @@ mod tests {
         (4, 3),
         (17, 1),
         (1, 64),
-        (2048, 4),
-        (3, 2048),
+        (4096, 4),
+        (3, 4096),
     ];
 
     /// Every path of every character is a list that the rules accept, and reading it gives it back.
@@ -313,7 +314,7 @@ mod tests {
         some(Character::Above, &|p| points(p).iter().all(|p| p.y < 0.0));
         some(Character::Below, &|p| points(p).iter().all(|p| p.y >= 8.0));
         some(Character::Limits, &|p| {
-            points(p).iter().any(|p| p.x > 2048.0)
+            points(p).iter().any(|p| p.x > REACH as f32)
         });
         some(Character::Corners, &|p| {
             points(p).iter().all(|p| p.x.fract() == 0.0)

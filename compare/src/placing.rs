@@ -146,7 +146,7 @@ fn scattered(dice: &mut Dice) -> Placing {
 fn at_the_limit(dice: &mut Dice) -> Placing {
     let offset = odd_offset(dice);
     let mut part = |offset: f32| {
-        let limit = dice.pick(&[2048.0, 2048.0037, 2048.00390625, 2047.9999]);
+        let limit = dice.pick(&[4096.0, 4096.0034, 4096.00390625, 4095.9998]);
         let limit = if dice.one_in(2) { -limit } else { limit };
         dice.pick(&[limit, limit, 0.5]) - offset
     };

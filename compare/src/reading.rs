@@ -12,4 +12,5 @@ pub use pixels::{byte_of, mask_of};
 pub use records::{record_at, record_starts, Record, LENGTHS};
 pub use refusals::{
     judge, judge_bounds, judge_placement, judge_room, passes_point_rule, pool, Accepted, Refusal,
+    REACH, SIDE,
 };

@@ -6,8 +6,9 @@ use crate::kinds::{bands::Bands, boxes::Boxes, lists::Lists, maps, placements::P
 use crate::kinds::{cells, drawings, filled, in_bands, run, stores, Kind};
 use compare::boundaries;
 use compare::drawing::{
-    at_a_boundary, at_the_cap, at_the_limits, every_order, in_bands_at_the_cap, long_rows_filled,
-    orders_in_all, ordinary, rows_filled, with_just_room, with_room_for_bands,
+    at_a_boundary, at_the_cap, at_the_limits, every_order, in_bands_at_the_cap,
+    in_bands_of_full_rows, long_rows_filled, orders_in_all, ordinary, rows_filled, with_just_room,
+    with_room_for_bands,
 };
 use compare::flags::Flags;
 use compare::oracle::Origin;
@@ -168,7 +169,7 @@ fn rows_in_order(run: &mut Run) -> Result<(), String> {
     };
     run.scaled(&short, 30_000)?;
     let long = Filled {
-        name: "rows: up to 2,049 places filled in order, with just room or just not",
+        name: "rows: up to 2,725 places filled in order, with just room or just not",
         make: long_rows_filled,
     };
     run.scaled(&long, 160)
@@ -260,6 +261,11 @@ fn bands(run: &mut Run) -> Result<(), String> {
             "labels drawn in bands by one call, about the cap of 16,384 places",
             in_bands_at_the_cap,
             200,
+        ),
+        (
+            "labels drawn in bands by one call, rows of 4,097 places",
+            in_bands_of_full_rows,
+            40,
         ),
     ];
     for (name, make, count) in kinds {

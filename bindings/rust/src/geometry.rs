@@ -224,7 +224,7 @@ pub fn bounds(list: impl AsRef<[u8]>, transform: Transform) -> Result<Bounds, Re
 /// To draw what was placed, use the width, the height and the new offset; where the path was placed
 /// with an offset of its own, the sum of both.
 ///
-/// A placement can be larger than a drawing may be, up to 4098 x 4098.
+/// A placement can be larger than a drawing may be, up to 8194 x 8194.
 ///
 /// # Errors
 ///

@@ -5,7 +5,7 @@ use std::ops::Range;
 use crate::{face, Origin, Point, Refusal, Transform};
 
 /// The largest width and height, in pixels.
-pub const MOST_SIDE: usize = 2_048;
+pub const MOST_SIDE: usize = 4_096;
 /// The largest pitch, in bytes.
 pub const MOST_PITCH: usize = 65_536;
 /// The longest path list, in bytes.

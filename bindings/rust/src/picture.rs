@@ -112,7 +112,7 @@ impl fmt::Debug for Picture {
 ///
 /// let picture = draw(Path::new(), &Label::new(2, 2))?;
 /// assert_eq!(picture.mask(), [0; 4]);
-/// let refused = draw(Path::new(), &Label::new(2049, 1));
+/// let refused = draw(Path::new(), &Label::new(4097, 1));
 /// assert_eq!(refused, Err(Refusal::Size));
 /// # Ok::<(), Refusal>(())
 /// ```

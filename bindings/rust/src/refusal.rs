@@ -7,7 +7,7 @@ use std::fmt;
 ///
 /// | No. | Exactly when |
 /// |---|---|
-/// | 1 | width or height is above 2,048 |
+/// | 1 | width or height is above 4,096 |
 /// | 2 | the band's start is above its end, or its end above height |
 /// | 3 | pitch is below width or above 65,536 |
 /// | 4 | the band has rows and the mask is shorter than pitch · (rows − 1) + width |
@@ -22,7 +22,7 @@ use std::fmt;
 /// | 13 | the distinct places (column, row) that are stored outnumber the pool's |
 ///
 /// The point rule: transformed and moved by the offset, both parts are finite and, times 256 and
-/// cut toward zero, at most 524,288 either way: 2048.0034 passes and 2048.00390625 fails.
+/// cut toward zero, at most 1,048,576 either way: 4096.0034 passes and 4096.00390625 fails.
 ///
 /// 1 to 7 are judged in this order; then each record, from the first on, up to one that is refused;
 /// 13 comes last. Which of them a function gives is said by its *Errors*.
@@ -43,7 +43,7 @@ use std::fmt;
 #[derive(Clone, Copy, PartialEq, Eq, Hash)]
 #[non_exhaustive]
 pub enum Refusal {
-    /// 1: a width or height above 2,048.
+    /// 1: a width or height above 4,096.
     Size,
     /// 2: a band that does not lie within the label.
     Band,
@@ -142,7 +142,7 @@ impl Refusal {
     #[must_use]
     pub const fn words(&self) -> &'static str {
         match self {
-            Refusal::Size => "the width or the height is above 2,048 pixels",
+            Refusal::Size => "the width or the height is above 4,096 pixels",
             Refusal::Band => "the band does not lie within the label",
             Refusal::Pitch => "the pitch is below the width or above 65,536 bytes",
             Refusal::Mask => "the mask is too short for the band",
@@ -154,7 +154,7 @@ impl Refusal {
             Refusal::Length(_) => "the record's length is not its kind's",
             Refusal::Start(_) => "the first record is not a MoveTo",
             Refusal::Point(_) => {
-                "a point is NaN, infinite, or 1/256 of a pixel or more beyond 2,048 from zero"
+                "a point is NaN, infinite, or 1/256 of a pixel or more beyond 4,096 from zero"
             }
             Refusal::Room => "the drawing needs more places than the workspace has room for",
             Refusal::Unknown(_) => "an unknown refusal",

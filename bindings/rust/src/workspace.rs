@@ -7,7 +7,7 @@ use crate::picture::row_of;
 use crate::{face, mask_bytes, workspace_words, Drawn, Label, Origin, Refusal};
 use crate::{MOST_CELLS, MOST_SIDE};
 
-/// Memory to draw any label in, taken once: 264 KiB.
+/// Memory to draw any label in, taken once: 272 KiB.
 ///
 /// Drawing with it allocates nothing and never lacks room. What one label leaves in it says nothing
 /// to the next.
@@ -285,5 +285,16 @@ fn path_rows(label: &Label, rows: &Range<usize>) -> Range<usize> {
     match label.origin {
         Origin::TopLeft => rows.clone(),
         Origin::BottomLeft => label.height - rows.end..label.height - rows.start,
+    }
+}
+
+#[cfg(test)]
+mod tests {
+    use super::*;
+
+    #[test]
+    fn a_workspace_takes_272_kib() {
+        let taken = size_of_val(&Workspace::new().words[..]);
+        assert_eq!(taken, 272 * 1024);
     }
 }

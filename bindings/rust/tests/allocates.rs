@@ -108,7 +108,7 @@ fn a_label_too_large_takes_nothing() {
         ..Label::new(4, 3)
     };
     let refusing = taken(|| {
-        let large = draw(&path, &Label::new(2049, 1));
+        let large = draw(&path, &Label::new(4097, 1));
         assert_eq!(large, Err(Refusal::Size));
         let larger = draw(&path, &Label::new(usize::MAX, usize::MAX));
         assert_eq!(larger, Err(Refusal::Size));

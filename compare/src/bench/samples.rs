@@ -34,21 +34,36 @@ type Recipe = (
     fn(&mut Dice) -> Vec<Command>,
 );
 
-pub const GROUPS: [Recipe; 3] = [
+pub const GROUPS: [Recipe; 5] = [
     ("text", "small text, 400×120", ADDRESS, 100, address),
     (
         "curves",
         "large curves, 2048×2048",
         (2048, 2048),
         20,
-        large_curves,
+        |dice| large_curves(2048, (700, 900), dice),
     ),
     (
         "lines",
         "long thin lines, 2048×2048",
         (2048, 2048),
         20,
-        thin_bars,
+        |dice| thin_bars(2048, dice),
+    ),
+    // Curves no larger than the pool holds.
+    (
+        "largest",
+        "largest curves, 4096×4096",
+        (4096, 4096),
+        20,
+        |dice| large_curves(4096, (1200, 1300), dice),
+    ),
+    (
+        "largest",
+        "longest thin lines, 4096×4096",
+        (4096, 4096),
+        20,
+        |dice| thin_bars(4096, dice),
     ),
 ];
 
@@ -79,17 +94,18 @@ fn sample(path: Vec<Command>, width: usize, height: usize) -> Sample {
     }
 }
 
-/// As many bars across the label as its pool holds.
-fn thin_bars(dice: &mut Dice) -> Vec<Command> {
-    let fits = |path: &[Command]| driver::outcome(&Drawing::plain(path, 2048, 2048)).number == 0;
-    let mut path = thin_bar(dice);
+/// As many bars across the label as its pool holds, one at least.
+fn thin_bars(side: usize, dice: &mut Dice) -> Vec<Command> {
+    let fits = |path: &[Command]| driver::outcome(&Drawing::plain(path, side, side)).number == 0;
+    let mut path = Vec::new();
     loop {
         let mut more = path.clone();
-        more.extend(thin_bar(dice));
-        if !fits(&more) {
+        more.extend(thin_bar(side, dice));
+        if fits(&more) {
+            path = more;
+        } else if !path.is_empty() {
             return path;
         }
-        path = more;
     }
 }
 

@@ -119,13 +119,13 @@ fn first_records(rows: &mut Rows) {
 
 /// The largest parts that pass and the smallest that do not, and what is no number.
 const PARTS: [(f32, u8); 12] = [
-    (2048.0, 0),
-    (-2048.0, 0),
-    (2048.0037, 0),
-    (-2048.0037, 0),
-    (2048.00390625, 12),
-    (-2048.00390625, 12),
-    (4096.0, 12),
+    (4096.0, 0),
+    (-4096.0, 0),
+    (4096.0034, 0),
+    (-4096.0034, 0),
+    (4096.00390625, 12),
+    (-4096.00390625, 12),
+    (8192.0, 12),
     (f32::MAX, 12),
     (-1.0e30, 12),
     (f32::NAN, 12),
@@ -165,23 +165,23 @@ fn moved_points(rows: &mut Rows) {
     moved("the product infinite", 3.0e38, 12, |d| {
         d.transform.xx = 16.0
     });
-    moved("moved out by the transform", 2048.0, 12, |d| {
+    moved("moved out by the transform", 4096.0, 12, |d| {
         d.transform.x = 1.0
     });
-    moved("moved out by the offset", 2048.0, 12, |d| d.offset.x = 1.0);
-    moved("moved in by the offset", 2049.0, 0, |d| d.offset.x = -1.0);
-    moved("y moved out by xy", 2048.0, 12, |d| d.transform.xy = 2.0);
-    moved("scaled out", 1025.0, 12, |d| d.transform.xx = 2.0);
-    moved("scaled to the limit", 1024.0, 0, |d| d.transform.xx = 2.0);
+    moved("moved out by the offset", 4096.0, 12, |d| d.offset.x = 1.0);
+    moved("moved in by the offset", 4097.0, 0, |d| d.offset.x = -1.0);
+    moved("y moved out by xy", 4096.0, 12, |d| d.transform.xy = 2.0);
+    moved("scaled out", 2049.0, 12, |d| d.transform.xx = 2.0);
+    moved("scaled to the limit", 2048.0, 0, |d| d.transform.xx = 2.0);
     moved("far away and back", 0.0, 0, |d| {
         (d.transform.x, d.offset.x) = (f32::MAX, f32::MIN);
     });
     moved("an offset that no point feels", 0.0, 12, |d| {
-        d.offset.y = 2048.00390625;
+        d.offset.y = 4096.00390625;
     });
     let empty = k1_but(|d| {
         d.list.clear();
-        d.offset.x = 2048.00390625;
+        d.offset.x = 4096.00390625;
     });
     rows.plain("an empty list far away", 0, empty);
 }

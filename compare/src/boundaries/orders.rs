@@ -4,6 +4,7 @@ use super::{k1, Boundary, Rows};
 use crate::drawing::Drawing;
 use crate::list::{record, written};
 use crate::oracle::{Command, Point};
+use crate::reading::SIDE;
 
 pub fn table() -> Vec<Boundary> {
     let mut rows = Rows::default();
@@ -32,7 +33,7 @@ fn pairs(rows: &mut Rows) {
 /// Gives K1 the fault of this number, in its first record where it is a record's.
 fn spoil(drawing: &mut Drawing, number: u8) {
     match number {
-        1 => drawing.height = 2049,
+        1 => drawing.height = SIDE + 1,
         2 => drawing.first = drawing.end + 1,
         3 => drawing.pitch = 3,
         4 => drawing.mask.truncate(11),
@@ -73,7 +74,7 @@ fn within_a_record(rows: &mut Rows) {
 /// Of two faulty records the first is told, whichever numbers they have.
 fn front_to_back(rows: &mut Rows) {
     let origin = Point::new(0.0, 0.0);
-    let far = Point::new(3000.0, 0.0);
+    let far = Point::new(5000.0, 0.0);
     let start = record(&Command::MoveTo(origin));
     let faults: [(u8, Vec<u8>); 4] = [
         (9, vec![2, 0, 6, 0]),

@@ -3,6 +3,8 @@
 use super::{k1, k1_but, rectangle, Boundary, Rows};
 use crate::drawing::Drawing;
 use crate::oracle::{Command, Point};
+use crate::paths::full_rows;
+use crate::reading::SIDE;
 
 const FAR: usize = usize::MAX;
 
@@ -16,18 +18,19 @@ pub fn table() -> Vec<Boundary> {
     floats(&mut rows);
     pools(&mut rows);
     the_cap(&mut rows);
+    widest_rows(&mut rows);
     rows.0
 }
 
 fn sides(rows: &mut Rows) {
     let path = rectangle(1.0, 1.0, 3.0, 2.0);
-    for (side, number) in [(0, 0), (1, 0), (2047, 0), (2048, 0), (2049, 1)] {
+    for (side, number) in [(0, 0), (1, 0), (SIDE - 1, 0), (SIDE, 0), (SIDE + 1, 1)] {
         let wide = Drawing::plain(&path, side, 3);
         rows.plain(format!("{side} wide"), number, wide);
         let tall = Drawing::plain(&path, 4, side);
         rows.plain(format!("{side} high"), number, tall);
     }
-    for side in [4096, 65_536, 1 << 31, 1 << 32, FAR - 1, FAR] {
+    for side in [8192, 65_536, 1 << 31, 1 << 32, FAR - 1, FAR] {
         rows.plain(format!("{side} wide"), 1, k1_but(|d| d.width = side));
         rows.plain(format!("{side} high"), 1, k1_but(|d| d.height = side));
         let both = k1_but(|d| (d.width, d.height) = (side, side));
@@ -93,9 +96,9 @@ fn masks(rows: &mut Rows) {
         d.mask.clear();
     });
     rows.plain("no rows and no mask", 0, no_rows);
-    let mut tall = Drawing::plain(&[], 2048, 2048);
+    let mut tall = Drawing::plain(&[], SIDE, SIDE);
     tall.pitch = 65_536;
-    rows.plain("65,536 times 2,047 bytes lacking", 4, tall);
+    rows.plain("a pitch of 65,536 for a mask without gaps", 4, tall);
     let no_width = k1_but(|d| {
         (d.width, d.pitch) = (0, 0);
         d.mask.clear();
@@ -174,23 +177,35 @@ fn pools(rows: &mut Rows) {
     }
 }
 
-/// The largest pool, 16,384: four bars of 2,048 rows take two places a row each, a last MoveTo one
+/// The largest pool, 16,384: two bars of 4,096 rows take two places a row each, a last MoveTo one
 /// more.
 fn the_cap(rows: &mut Rows) {
-    let bar = |n: usize| rectangle(8.0 * n as f32, 0.0, 8.0 * n as f32 + 4.0, 2048.0);
-    let path: Vec<Command> = (0..4).flat_map(bar).collect();
-    let mut drawing = Drawing::plain(&path, 32, 2048);
-    for (words, number) in [(67_583, 13), (67_584, 0), (67_588, 0), (100_000, 0)] {
+    let bar = |n: usize| rectangle(8.0 * n as f32, 0.0, 8.0 * n as f32 + 4.0, SIDE as f32);
+    let path: Vec<Command> = (0..2).flat_map(bar).collect();
+    let mut drawing = Drawing::plain(&path, 16, SIDE);
+    for (words, number) in [(69_631, 13), (69_632, 0), (69_636, 0), (100_000, 0)] {
         drawing.words.resize(words, 5);
         let what = format!("16,384 places and {words} words");
         rows.plain(what, number, drawing.clone());
     }
     let mut one_more = path;
-    one_more.push(Command::MoveTo(Point::new(31.0, 7.0)));
+    one_more.push(Command::MoveTo(Point::new(15.0, 7.0)));
     drawing.list = crate::list::written(&one_more);
-    for words in [67_584, 67_588, 100_000] {
+    for words in [69_632, 69_636, 100_000] {
         drawing.words.resize(words, 5);
         let what = format!("16,385 places and {words} words");
         rows.plain(what, 13, drawing.clone());
     }
+}
+
+/// The widest label with every place of its rows stored, 4,097 in each: three rows fit the largest
+/// pool, four do not.
+fn widest_rows(rows: &mut Rows) {
+    for (count, number) in [(1, 0), (3, 0), (4, 13)] {
+        let drawing = Drawing::plain(&full_rows(SIDE, count), SIDE, count);
+        rows.plain(format!("{count} widest rows, full"), number, drawing);
+    }
+    let mut lacking = Drawing::plain(&full_rows(SIDE, 3), SIDE, 3);
+    lacking.words.truncate(3 + 4 * 3 * (SIDE + 1) - 1);
+    rows.plain("3 widest rows, full, a word lacking", 13, lacking);
 }

@@ -7,6 +7,7 @@ use crate::numbers::Dice;
 use crate::oracle::Fill;
 use crate::order::{numbers_in_order, orders_of, Order};
 use crate::paths::Figure;
+use crate::reading::SIDE;
 
 /// Rows of few columns, any figure and order.
 pub fn rows_filled(_: u64, dice: &mut Dice) -> Drawing {
@@ -26,7 +27,7 @@ pub fn rows_filled(_: u64, dice: &mut Dice) -> Drawing {
 pub fn long_rows_filled(number: u64, dice: &mut Dice) -> Drawing {
     let figure = Figure::ALL[number as usize % 2];
     let order = Order::ALL[number as usize / 2 % Order::ALL.len()];
-    let widest = 2049.min(figure.most_visits() - 4);
+    let widest = (SIDE + 1).min(figure.most_visits() - 4);
     let columns = widest - dice.pick(&[0, 0, 1, 49]);
     let visits = order.visits(columns, figure.most_visits() - columns, dice);
     let rows = dice.pick(&[1, 1, 1, 2]);
@@ -104,7 +105,7 @@ mod tests {
         assert!(full > 250 && refused > 250, "{full} {refused}");
     }
 
-    /// The widest row has a place in every column, column -1 included.
+    /// The longest row that a list has visits for has a place in every column, column -1 included.
     #[test]
     fn long_rows_are_full() {
         let mut dice = Dice::new(31);
@@ -116,7 +117,7 @@ mod tests {
             assert_eq!((outcome.number, outcome.cells), (0, drawing.every_place()));
             most = most.max(drawing.width + 1);
         }
-        assert_eq!(most, 2049);
+        assert_eq!(most, 2725);
     }
 
     /// Half of them are accepted with not a word to spare, the others lack a place.

@@ -4,7 +4,8 @@ use super::{longest, odd_offset, ordinary, soil, spoil_floats, Drawing};
 use crate::driver;
 use crate::numbers::Dice;
 use crate::oracle::{Command, Fill, Point};
-use crate::paths::{damaged, Character};
+use crate::paths::{damaged, full_rows, Character};
+use crate::reading::SIDE;
 
 const FAR: usize = usize::MAX;
 
@@ -12,7 +13,7 @@ const FAR: usize = usize::MAX;
 pub fn at_the_limits(dice: &mut Dice) -> Drawing {
     let (width, height) = sides(dice);
     let character = dice.pick(&Character::ALL);
-    let path = character.path(width.min(2048), height.min(2048), dice);
+    let path = character.path(width.min(SIDE), height.min(SIDE), dice);
     let mut drawing = Drawing::plain(&path, 0, 0);
     (drawing.width, drawing.height) = (width, height);
     drawing.fill = dice.pick(&[Fill::NonZero, Fill::EvenOdd]);
@@ -35,9 +36,9 @@ pub fn at_the_limits(dice: &mut Dice) -> Drawing {
 
 /// One side at its limit, seldom both: a whole label of both is large.
 fn sides(dice: &mut Dice) -> (usize, usize) {
-    let far = dice.pick(&[2047, 2048, 2048, 2048, 2049, FAR]);
+    let far = dice.pick(&[SIDE - 1, SIDE, SIDE, SIDE, SIDE + 1, FAR]);
     match dice.below(64) {
-        0 => (far, dice.pick(&[2048, 2049, FAR])),
+        0 => (far, dice.pick(&[SIDE, SIDE + 1, FAR])),
         1..=31 => (far, dice.below(6)),
         _ => (dice.below(6), far),
     }
@@ -71,13 +72,14 @@ fn few_rows(height: usize, dice: &mut Dice) -> (usize, usize) {
 /// A mask and a workspace with what the sizes need, or an entry less or more.
 fn lend_just_enough(drawing: &mut Drawing, dice: &mut Dice) {
     let rows = drawing.end.saturating_sub(drawing.first).min(4);
-    let fits = drawing.pitch <= 65_537 && drawing.width <= 2049;
+    let fits = drawing.pitch <= 65_537 && drawing.width <= SIDE + 1;
     let bytes = match rows.checked_sub(1) {
         Some(before_last) if fits => drawing.pitch * before_last + drawing.width,
         _ => 0,
     };
     drawing.mask = super::old::bytes(beside(bytes, dice));
-    let places = dice.pick(&[0, 0, 1, 2, 4 * 2049, 4 * 2049]);
+    let full = 4 * (SIDE + 1);
+    let places = dice.pick(&[0, 0, 1, 2, full, full]);
     let spare = dice.pick(&[0, 0, 1, 3]);
     drawing.words = super::old::words(beside(rows + 4 * places, dice) + spare);
 }
@@ -117,7 +119,7 @@ const CAP: usize = 16_384;
 
 /// A call with about 16,384 places and a workspace for more.
 pub fn at_the_cap(dice: &mut Dice) -> Drawing {
-    let mut drawing = tall_bars(4, dice);
+    let mut drawing = tall_bars(2, dice);
     let rows = drawing.rows();
     lend_the_cap(&mut drawing, rows, dice);
     soil(&mut drawing, dice);
@@ -126,9 +128,21 @@ pub fn at_the_cap(dice: &mut Dice) -> Drawing {
 
 /// A call with about 32,768 places and a step by which a band has about half of them, or less.
 pub fn in_bands_at_the_cap(dice: &mut Dice) -> (Drawing, usize) {
-    let mut drawing = tall_bars(8, dice);
-    let step = dice.pick(&[512, 1023, 1024, 1024, 1025]);
+    let mut drawing = tall_bars(4, dice);
+    let step = dice.pick(&[1024, 2047, 2048, 2048, 2049]);
     lend_the_cap(&mut drawing, step, dice);
+    soil(&mut drawing, dice);
+    (drawing, step)
+}
+
+/// A call of the widest label, every place of its rows stored, and a step with just room for it, or
+/// just not: of three rows the largest pool has the places, of four it has not.
+pub fn in_bands_of_full_rows(dice: &mut Dice) -> (Drawing, usize) {
+    let rows = 1 + dice.below(8);
+    let mut drawing = Drawing::plain(&full_rows(SIDE, rows), SIDE, rows);
+    let step = dice.pick(&[1, 2, 3, 3, 4]);
+    let words = step + 4 * (SIDE + 1) * step;
+    drawing.words = super::old::words(words - dice.pick(&[0, 0, 0, 1]));
     soil(&mut drawing, dice);
     (drawing, step)
 }
@@ -136,7 +150,6 @@ pub fn in_bands_at_the_cap(dice: &mut Dice) -> (Drawing, usize) {
 /// Bars as tall as may be, each two places a row, and at times a last MoveTo that takes one place
 /// more.
 fn tall_bars(count: usize, dice: &mut Dice) -> Drawing {
-    const TALL: usize = 2048;
     let mut path = Vec::new();
     for bar in 0..count {
         let left = 8.0 * bar as f32 + dice.pick(&[0.0, 0.5, 2.25]);
@@ -145,14 +158,14 @@ fn tall_bars(count: usize, dice: &mut Dice) -> Drawing {
         } else {
             0
         };
-        path.extend(bar_of(left, left + 4.0, (TALL - lower) as f32));
+        path.extend(bar_of(left, left + 4.0, (SIDE - lower) as f32));
     }
     let width = 8 * count;
     if dice.one_in(2) {
-        let row = dice.below(TALL) as f32;
+        let row = dice.below(SIDE) as f32;
         path.push(Command::MoveTo(Point::new((width - 1) as f32, row)));
     }
-    let mut drawing = Drawing::plain(&path, width, TALL);
+    let mut drawing = Drawing::plain(&path, width, SIDE);
     if dice.one_in(8) {
         drawing.first = 1;
     }

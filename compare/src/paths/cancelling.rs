@@ -5,13 +5,13 @@ use super::{open_figure, text, Character, Field};
 use crate::list;
 use crate::numbers::Dice;
 use crate::oracle::{Command, Point, Transform};
-use crate::reading::passes_point_rule;
+use crate::reading::{passes_point_rule, REACH};
 
 /// A figure and its double, and at times a MoveTo behind them, so that the last cell lies elsewhere.
 pub fn cancelling(field: &Field, dice: &mut Dice) -> Vec<Command> {
     let mut path = match dice.below(4) {
         0 => closed_figure(field, dice),
-        1 => text::glyph(field.height.clamp(1, 2048) as f32, dice),
+        1 => text::glyph(field.height.clamp(1, REACH) as f32, dice),
         _ => rectangle(field, dice),
     };
     let figures = figures_of(&path);

@@ -76,10 +76,10 @@ const JUDGED: [f32; 9] = [
     f32::NEG_INFINITY,
     f32::MAX,
     -1.0e30,
-    2048.00390625,
-    -2048.004,
-    2048.0037,
-    4096.0,
+    4096.00390625,
+    -4096.004,
+    4096.0034,
+    8192.0,
 ];
 
 /// Puts such a number into the record at `start`, or into what follows where it has none.

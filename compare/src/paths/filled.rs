@@ -99,6 +99,26 @@ fn other_than(across: usize, dice: &mut Dice) -> usize {
     (across + 1 + dice.below(255)) % 256
 }
 
+/// How many columns a line of `full_rows` crosses, so few that it gives something to each.
+const STEEP: usize = 64;
+
+/// Rows in which every place of a label so wide is stored, that of column -1 too: in each a zigzag
+/// across all columns.
+pub fn full_rows(width: usize, rows: usize) -> Vec<Command> {
+    let mut path = Vec::new();
+    for row in 0..rows {
+        let turns = (0..=width).step_by(STEEP).chain([width + 1]);
+        for (number, column) in turns.enumerate() {
+            let point = at(column, 0, 256 * row + [32, 224][number % 2]);
+            path.push(match number {
+                0 => Command::MoveTo(point),
+                _ => Command::LineTo(point),
+            });
+        }
+    }
+    path
+}
+
 #[cfg(test)]
 mod tests {
     use super::*;
@@ -153,14 +173,21 @@ mod tests {
         }
     }
 
+    #[test]
+    fn full_rows_store_every_place() {
+        for (width, rows) in [(0, 1), (5, 3), (63, 2), (64, 2), (4096, 3)] {
+            let drawing = Drawing::plain(&full_rows(width, rows), width, rows);
+            let outcome = driver::outcome(&drawing);
+            assert_eq!((outcome.number, outcome.cells), (0, drawing.every_place()));
+        }
+    }
+
     /// As many visits as a list has room for make a list that is no longer than it may be.
     #[test]
     fn the_longest_lists_have_room() {
         let mut dice = Dice::new(29);
         for figure in Figure::ALL {
-            let columns = figure.most_visits().min(2049);
-            let again = figure.most_visits() - columns;
-            let mut visits = Order::Random.visits(columns, again, &mut dice);
+            let mut visits = Order::Random.visits(figure.most_visits() - 4, 4, &mut dice);
             visits.resize(figure.most_visits(), 0);
             let bytes = list::written(&figure.path(&visits, 1, &mut dice));
             assert!((65_000..=65_536).contains(&bytes.len()), "{}", bytes.len());

@@ -16,11 +16,11 @@ pub struct Refusal {
 pub type Accepted = Vec<Command>;
 
 /// The largest width and height.
-const SIDE: usize = 2048;
+pub const SIDE: usize = 4096;
 /// The largest pitch, and the longest list.
 const MOST: usize = 65_536;
-/// The point rule's limit, in 1/256 of a pixel.
-const POINT: f64 = 524_288.0;
+/// How far from zero a point may lie by the point rule, in pixels.
+pub const REACH: i64 = 4096;
 /// The most places of a pool.
 const PLACES: usize = 16_384;
 
@@ -65,12 +65,12 @@ pub fn judge_room(places: usize, words: usize, rows: usize) -> Result<(), Refusa
     Ok(())
 }
 
-/// The point rule: each part is finite and, times 256 and cut toward zero, at most 524,288
+/// The point rule: each part is finite and, times 256 and cut toward zero, at most 256 times `REACH`
 /// either way.
 pub fn passes_point_rule(point: Point) -> bool {
     [point.x, point.y].iter().all(|&part| {
         // 256 times a binary32 is exact in binary64.
-        part.is_finite() && (f64::from(part) * 256.0).trunc().abs() <= POINT
+        part.is_finite() && (f64::from(part) * 256.0).trunc().abs() <= 256.0 * REACH as f64
     })
 }
 

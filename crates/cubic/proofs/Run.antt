@@ -229,8 +229,8 @@ module _ (a c d b : FixedPoint) where
   unfolding points
   nine-halves f = nine-points f ∙ append-nil (halves 9 (cubic a c d b))
 
-  pub reach-halves : Four Reach (cubic a c d b) → cubicPoints a c d b ≡ halves 9 (cubic a c d b)
-  reach-halves r = nine-halves (reach-flat (cubic a c d b) r)
+  pub reach-halves : (n : ℕ) → 9 ≤ n → Four Reach (cubic a c d b) → cubicPoints a c d b ≡ halves n (cubic a c d b)
+  reach-halves n h r = let f = reach-flat (cubic a c d b) r in nine-halves f ∙ sym (halves-more 9 n (cubic a c d b) h f)
 
   -- the full stack is never met, and 1024 steps suffice
   pub never-stuck : Four Reach (cubic a c d b) → stuck 1024 (cubic a c d b) [] ≡ false

@@ -439,10 +439,10 @@ fn file_space() -> [u8; 1048576]
     [0; 1048576]
 }
 
-fn word_space() -> [u32; 67584]
-    ensures { λ r. ⌜ 67584 ≡ length r ⌝ }
+fn word_space() -> [u32; 69632]
+    ensures { λ r. ⌜ 69632 ≡ length r ⌝ }
 {
-    [0; 67584]
+    [0; 69632]
 }
 
 fn replay_file(fd: i32) {

@@ -2,8 +2,8 @@
 
 use crate::{k1, rectangle, round_figure};
 use mosszephyr::{
-    draw, draw_band, draw_in_bands, mask_bytes, workspace_words, Drawn, Fill, Label, Origin, Path,
-    Refusal,
+    bands_words, draw, draw_band, draw_in_bands, mask_bytes, workspace_words, Drawn, Fill, Label,
+    Origin, Path, Refusal,
 };
 
 /// A band's mask and cells, drawn into memory that holds something old.
@@ -120,6 +120,20 @@ fn in_bands_as_at_once(label: &Label, first: usize, end: usize, step: usize) {
     );
     assert_eq!(mask, at_once);
     assert!(words.iter().all(|&word| word == 0));
+}
+
+/// K1 on the widest and on the highest label, row by row.
+#[test]
+fn sizes_at_their_limits_pass() {
+    for (width, height) in [(4096, 3), (4, 4096)] {
+        let label = Label::new(width, height);
+        let count = bands_words(height, 1, 2).unwrap();
+        let (mut mask, mut words) = (vec![0xA5; width * height], vec![9; count]);
+        let drawn = draw_in_bands(k1(), &label, 0..height, 1, &mut mask, &mut words);
+        let (records, cells) = (5, 2);
+        assert_eq!(drawn, Ok(Drawn { records, cells }));
+        assert_eq!(mask, draw(k1(), &label).unwrap().mask());
+    }
 }
 
 /// Row by row, little more than a word for each row serves the whole label; at once it does not.

@@ -1,7 +1,7 @@
 //! "Labels to try" of docs/RULES.md, as far as a caller can see them: K1 to K8, K11, K12, and the
 //! bytes of K9 and K10 as drawings.
 
-use crate::{closed, drawn, k1, rectangle};
+use crate::{closed, drawn, k1, rectangle, JUST_WITHIN};
 use mosszephyr::{
     bounds, draw, draw_band, placement, Bounds, Drawn, Fill, Label, Origin, Path, Placement, Point,
     Refusal, Transform,
@@ -96,6 +96,27 @@ fn k11_placement() {
     assert_eq!(bounds(&path, identity), Ok(corners));
 }
 
+/// From as far as a point may lie to as far the other way: larger than a drawing may be.
+#[test]
+fn the_largest_placement() {
+    let mut path = Path::new();
+    path.move_to((-JUST_WITHIN, -JUST_WITHIN))
+        .line_to((JUST_WITHIN, JUST_WITHIN));
+    let place = |origin| placement(&path, Transform::identity(), Point::ZERO, origin);
+    let expected = Placement {
+        offset: Point::new(4097.0, 4097.0),
+        left: -4097,
+        top: -4097,
+        width: 8194,
+        height: 8194,
+    };
+    assert_eq!(place(Origin::TopLeft), Ok(expected));
+    let top = 4097;
+    assert_eq!(place(Origin::BottomLeft), Ok(Placement { top, ..expected }));
+    let label = Label::new(expected.width, expected.height);
+    assert_eq!(draw(&path, &label), Err(Refusal::Size));
+}
+
 #[test]
 fn k12_empty_list() {
     let path = Path::new();
@@ -123,10 +144,10 @@ fn transform_and_offset_are_applied() {
 
 #[test]
 fn sizes_at_their_limits_pass() {
-    let wide = drawn(&k1(), 2048, 3);
-    assert_eq!((wide.mask().len(), wide.cells()), (2048 * 3, 2));
-    let high = drawn(&k1(), 4, 2048);
-    assert_eq!((high.mask().len(), high.cells()), (4 * 2048, 2));
+    let wide = drawn(&k1(), 4096, 3);
+    assert_eq!((wide.mask().len(), wide.cells()), (4096 * 3, 2));
+    let high = drawn(&k1(), 4, 4096);
+    assert_eq!((high.mask().len(), high.cells()), (4 * 4096, 2));
     let spaced = Label {
         pitch: 65_536,
         ..Label::new(4, 3)
@@ -134,6 +155,32 @@ fn sizes_at_their_limits_pass() {
     let picture = draw(k1(), &spaced).unwrap();
     assert_eq!(picture.mask().len(), 2 * 65_536 + 4);
     assert_eq!(picture.mask()[65_536..65_540], [0, 255, 255, 0]);
+}
+
+/// A square of one pixel in each corner; right of the last column no place is stored.
+#[test]
+fn the_largest_label_is_drawn() {
+    let corners = [(0.0, 0.0), (4095.0, 0.0), (0.0, 4095.0), (4095.0, 4095.0)];
+    let squares = corners.map(|(x, y)| rectangle(x, y, x + 1.0, y + 1.0).into_bytes());
+    let picture = drawn(&Path::from_bytes(squares.concat()), 4096, 4096);
+    assert_eq!((picture.records(), picture.cells()), (20, 6));
+    let mut expected = vec![0; 4096 * 4096];
+    for at in [0, 4095, 4095 * 4096, 4096 * 4096 - 1] {
+        expected[at] = 255;
+    }
+    assert!(picture.mask() == expected);
+}
+
+/// The largest label's last row within the largest rectangle, whose left side is column −1's.
+#[test]
+fn the_last_row_is_filled() {
+    let path = rectangle(-4096.0, -4096.0, 4096.0, 4096.0);
+    let (mut mask, mut words) = ([7; 4096], [9; 5]);
+    let label = Label::new(4096, 4096);
+    let drawn = draw_band(&path, &label, 4095..4096, &mut mask, &mut words);
+    let (records, cells) = (5, 1);
+    assert_eq!(drawn, Ok(Drawn { records, cells }));
+    assert_eq!(mask, [255; 4096]);
 }
 
 #[test]

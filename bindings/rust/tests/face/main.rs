@@ -14,6 +14,10 @@ mod worked;
 
 use mosszephyr::{draw, Label, Path, Picture, Point};
 
+/// The largest part of a point that passes, and the next float, which fails.
+const JUST_WITHIN: f32 = 4096.0 + 7.0 / 2048.0;
+const JUST_BEYOND: f32 = 4096.0 + 1.0 / 256.0;
+
 /// Lines through these points, closed.
 fn closed(points: &[(f32, f32)]) -> Path {
     let mut path = Path::new();
@@ -67,7 +71,7 @@ fn faulty_labels() -> [Label; 3] {
         ..endless
     };
     let wide = Label {
-        width: 2049,
+        width: 4097,
         ..narrow
     };
     [endless, narrow, wide]
@@ -81,14 +85,14 @@ fn dice(mut state: u32) -> impl FnMut(u32) -> u32 {
     }
 }
 
-/// Upright lines, one in each column and one before them: every row has width + 1 places.
+/// Lines down and up, one within each column and one before them, past these rows: every row has
+/// width + 1 places.
 fn comb(width: u16, rows: u16) -> Path {
-    let ends = [-1.0, f32::from(rows) + 1.0];
+    let ends = [f32::from(rows) + 1.0, -1.0];
     let mut path = Path::new();
-    path.move_to((-0.5, ends[0]));
+    path.move_to((-1.0, ends[1]));
     for column in 0..=width {
-        let (x, side) = (f32::from(column) - 0.5, usize::from(column % 2));
-        path.line_to((x, ends[side])).line_to((x, ends[1 - side]));
+        path.line_to((f32::from(column), ends[usize::from(column % 2)]));
     }
     path
 }

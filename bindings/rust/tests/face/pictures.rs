@@ -3,8 +3,8 @@
 
 use crate::{closed, comb, drawn, k1, round_figure};
 use mosszephyr::{
-    draw, draw_band, workspace_words, Drawn, Label, Origin, Path, Refusal, Transform, Workspace,
-    MOST_CELLS,
+    draw, draw_band, draw_in_bands, workspace_words, Drawn, Label, Origin, Path, Refusal,
+    Transform, Workspace, MOST_CELLS,
 };
 
 const EXAMPLE: &[u8] = include_bytes!("../../../../examples/label.mzp");
@@ -112,7 +112,11 @@ fn row_by_row(list: &Path, label: &Label) -> (Vec<u8>, usize) {
 /// As many places as there can be: with 128 rows of 129 it is 13, with 127 it is not.
 #[test]
 fn rows_full_of_places_are_drawn() {
-    for (width, height, origin) in [(128, 128, Origin::TopLeft), (256, 130, Origin::BottomLeft)] {
+    for (width, height, origin) in [
+        (128, 128, Origin::TopLeft),
+        (256, 130, Origin::BottomLeft),
+        (4096, 8, Origin::TopLeft),
+    ] {
         let path = comb(width, height);
         let label = Label {
             origin,
@@ -130,6 +134,18 @@ fn rows_full_of_places_are_drawn() {
     }
 }
 
+/// 4,097 places in each row: three rows have room, and four have not.
+#[test]
+fn the_fullest_rows_fit_by_three() {
+    let (path, label) = (comb(4096, 8), Label::new(4096, 8));
+    let mut mask = vec![7; 4096 * 8];
+    let mut words = vec![9; workspace_words(8, MOST_CELLS).unwrap()];
+    let mut by = |step| draw_in_bands(&path, &label, 0..8, step, &mut mask, &mut words);
+    assert_eq!(by(4), Err(Refusal::Room));
+    let (records, cells) = (4098, 4097 * 8);
+    assert_eq!(by(3), Ok(Drawn { records, cells }));
+}
+
 /// One workspace for labels of any size, refused ones among them, one after the other.
 #[test]
 fn a_workspace_serves_many_labels() {
@@ -139,12 +155,12 @@ fn a_workspace_serves_many_labels() {
         (&comb, 300, 60),
         (&k1(), 4, 3),
         (&round_figure(), 40, 30),
-        (&Path::new(), 2048, 2048),
-        (&comb, 300, 2048),
-        (&k1(), 2049, 1),
-        (&k1(), 1, 2049),
+        (&Path::new(), 4096, 4096),
+        (&comb, 300, 4096),
+        (&k1(), 4097, 1),
+        (&k1(), 1, 4097),
         (&Path::from_bytes([1]), 4, 3),
-        (&k1(), 2048, 3),
+        (&k1(), 4096, 3),
         (&k1(), 0, 3),
         (&k1(), 4, 0),
     ];

@@ -78,18 +78,21 @@ fn bands_together_are_the_picture() {
     }
 }
 
-/// Bands with more places than there is room for are drawn too: 257 in each of 70 rows.
+/// Bands with more places than there is room for are drawn too: 257 in each of 70 rows, and 4,097
+/// in each of 5.
 #[test]
 fn bands_full_of_places_are_drawn() {
-    let path = comb(256, 100);
-    for origin in [Origin::TopLeft, Origin::BottomLeft] {
-        let label = Label {
-            origin,
-            ..Label::new(256, 100)
-        };
-        let (rows, picture) = printed(&path, &label, 256 * 70);
-        assert_eq!(rows, [0..70, 70..100]);
-        assert!(picture == draw(&path, &label).unwrap().mask());
+    for (width, height, held) in [(256, 100, 70), (4096, 7, 5)] {
+        let path = comb(width, height);
+        for origin in [Origin::TopLeft, Origin::BottomLeft] {
+            let label = Label {
+                origin,
+                ..Label::new(width.into(), height.into())
+            };
+            let (rows, picture) = printed(&path, &label, label.width * held);
+            assert_eq!(rows, [0..held, held..label.height]);
+            assert!(picture == draw(&path, &label).unwrap().mask());
+        }
     }
 }
 
@@ -154,7 +157,7 @@ fn the_whole_list_is_judged_first() {
     let found = refusal(&cut, &label, 4);
     assert_eq!((found.number(), found.byte()), (8, Some(52)));
     let mut far = k1();
-    far.line_to((0.0, 3000.0));
+    far.line_to((0.0, 5000.0));
     let found = refusal(far.as_bytes(), &label, 4);
     assert_eq!((found.number(), found.record()), (12, Some(5)));
 }

@@ -2,10 +2,12 @@
 
 use std::ops::Range;
 
-use crate::{dice, faulty_labels, k1};
+use crate::{dice, faulty_labels, k1, JUST_BEYOND, JUST_WITHIN};
 use mosszephyr::{
-    bounds, draw, draw_band, placement, Label, Origin, Path, Point, Refusal, Transform,
+    bounds, draw, draw_band, draw_in_bands, placement, Command, Label, Origin, Path, Point,
+    Refusal, Transform,
 };
+use Command::{CurveTo, LineTo, MoveTo, QuadTo};
 
 /// A refusal as number, record and byte.
 fn told(refusal: Refusal) -> (u32, Option<usize>, Option<usize>) {
@@ -17,10 +19,13 @@ fn at(number: u32, record: usize, byte: usize) -> (u32, Option<usize>, Option<us
     (number, Some(record), Some(byte))
 }
 
-/// K1's path in a band, with so many bytes and words; both must stay as they were.
+/// K1's path in a band, at once and row by row, with so many bytes and words; both must stay as they
+/// were.
 fn band_refusal(label: &Label, band: Range<usize>, bytes: usize, count: usize) -> Refusal {
     let (mut mask, mut words) = (vec![7; bytes], vec![9; count]);
-    let refusal = draw_band(k1(), label, band, &mut mask, &mut words).unwrap_err();
+    let refusal = draw_band(k1(), label, band.clone(), &mut mask, &mut words).unwrap_err();
+    let by_rows = draw_in_bands(k1(), label, band, 1, &mut mask, &mut words);
+    assert_eq!(by_rows, Err(refusal));
     assert_eq!((refusal.record(), refusal.byte()), (None, None));
     assert_eq!(mask, vec![7; bytes]);
     assert_eq!(words, vec![9; count]);
@@ -44,11 +49,11 @@ fn k1_and(bytes: &[u8]) -> Path {
 
 #[test]
 fn size_is_1() {
-    for (width, height) in [(2049, 3), (4, 2049), (usize::MAX, usize::MAX)] {
+    for (width, height) in [(4097, 3), (4, 4097), (usize::MAX, usize::MAX)] {
         let label = Label::new(width, height);
         let refusal = band_refusal(&label, 0..3, 12, 19);
         assert_eq!((refusal, refusal.number()), (Refusal::Size, 1));
-        let words = "the width or the height is above 2,048 pixels";
+        let words = "the width or the height is above 4,096 pixels";
         assert_eq!(refusal.words(), words);
         assert_eq!(draw(k1(), &label), Err(refusal));
     }
@@ -184,26 +189,72 @@ fn start_is_11() {
 
 #[test]
 fn point_is_12() {
-    let just_too_far = 2048.0 + 1.0 / 256.0;
-    for far in [just_too_far, -just_too_far, 3e38, f32::INFINITY, f32::NAN] {
+    for far in [JUST_BEYOND, -JUST_BEYOND, 3e38, f32::INFINITY, f32::NAN] {
         let mut path = k1();
         path.curve_to((0.0, 0.0), (0.0, far), (0.0, 0.0));
         let refusal = list_refusal(&path);
         assert_eq!(told(refusal), at(12, 5, 52));
         assert!(matches!(refusal, Refusal::Point(Some(_))));
-        let words = "a point is NaN, infinite, or 1/256 of a pixel or more beyond 2,048 from zero";
+        let words = "a point is NaN, infinite, or 1/256 of a pixel or more beyond 4,096 from zero";
         assert_eq!(refusal.words(), words);
     }
-    let mut path = Path::new();
-    path.move_to((2048.0, -2048.0))
-        .line_to((-2048.0034, 2048.0034));
-    assert!(bounds(&path, Transform::identity()).is_ok());
+}
+
+/// Each part of each point of a record by itself, so far away; all others are 0.
+fn far_parts(far: f32) -> impl Iterator<Item = Path> {
+    let zero = Point::ZERO;
+    let points = [(far, 0.0), (0.0, far), (-far, 0.0), (0.0, -far)].map(Point::from);
+    points.into_iter().flat_map(move |point| {
+        let records = [
+            MoveTo(point),
+            LineTo(point),
+            QuadTo(point, zero),
+            QuadTo(zero, point),
+            CurveTo(point, zero, zero),
+            CurveTo(zero, point, zero),
+            CurveTo(zero, zero, point),
+        ];
+        records.map(|record| [MoveTo(zero), record].into_iter().collect())
+    })
+}
+
+#[test]
+fn every_point_is_judged() {
+    assert_eq!(JUST_BEYOND.to_bits(), JUST_WITHIN.to_bits() + 1);
+    let identity = Transform::identity();
+    for path in far_parts(4096.0).chain(far_parts(JUST_WITHIN)) {
+        assert!(draw(&path, &Label::new(4, 3)).is_ok(), "{path:?}");
+        assert!(bounds(&path, identity).is_ok(), "{path:?}");
+        let placed = placement(&path, identity, Point::ZERO, Origin::TopLeft);
+        assert!(placed.is_ok(), "{path:?}");
+    }
+    for path in far_parts(JUST_BEYOND) {
+        assert_eq!(told(list_refusal(&path)), at(12, 1, 12), "{path:?}");
+    }
+}
+
+/// With the offset added a point may be too far; bounds have no offset.
+#[test]
+fn points_are_judged_with_the_offset() {
+    let (identity, mut path) = (Transform::identity(), Path::new());
+    path.move_to((4096.0, -4096.0));
+    for offset in [Point::new(1.0 / 256.0, 0.0), Point::new(0.0, -1.0 / 256.0)] {
+        let label = Label {
+            offset,
+            ..Label::new(4, 3)
+        };
+        let refusal = draw(&path, &label).unwrap_err();
+        assert_eq!(told(refusal), at(12, 0, 0));
+        let placed = placement(&path, identity, offset, Origin::TopLeft);
+        assert_eq!(placed, Err(refusal));
+    }
+    assert!(bounds(&path, identity).is_ok());
 }
 
 /// The offset of an empty path is judged by a placement only.
 #[test]
 fn offset_of_an_empty_path_is_12_in_a_placement() {
-    let offset = Point::new(2048.5, 0.0);
+    let offset = Point::new(4096.5, 0.0);
     let placed = placement(
         Path::new(),
         Transform::identity(),
