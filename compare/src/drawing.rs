@@ -22,7 +22,7 @@ use crate::list;
 use crate::numbers::{Dice, Palette};
 use crate::oracle::{Command, Fill, Point, Transform};
 use crate::paths::{damaged, Character};
-use crate::reading::{REACH, SIDE};
+use crate::reading::SIDE;
 
 /// All that a drawing is lent and told; the band is [first, end).
 #[derive(Clone, Debug)]

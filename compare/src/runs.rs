@@ -39,16 +39,18 @@ struct Run<'a> {
 
 type Group = fn(&mut Run) -> Result<(), String>;
 
-/// The groups by name, in the order of their running.
-const GROUPS: [(&str, Group); 8] = [
+/// The groups by name, in the order of their running; the last take longest.
+const GROUPS: [(&str, Group); 10] = [
     ("maps", maps),
     ("boxes", boxes),
     ("placements", placements),
     ("lists", lists),
-    ("cells", cells),
+    ("rows", rows),
+    ("stores", stores),
     ("drawings", drawings),
     ("refusals", refusals),
     ("bands", bands),
+    ("cells", cells),
 ];
 
 /// What stops a run: words it does not understand, or a difference.
@@ -152,12 +154,11 @@ fn cells(run: &mut Run) -> Result<(), String> {
     for character in Character::ALL {
         run.scaled(&cells::Cells(character), 40_000)?;
     }
-    rows_in_order(run)?;
-    stores(run)
+    Ok(())
 }
 
 /// Labels whose rows are filled in every order, the pool just full or lacking a place.
-fn rows_in_order(run: &mut Run) -> Result<(), String> {
+fn rows(run: &mut Run) -> Result<(), String> {
     let all = Filled {
         name: "rows: all orders of six columns, each again",
         make: every_order,
