@@ -322,12 +322,19 @@ fn long_flat_edge_is_coarse() {
 /// Where the port refuses a size or a finite point that is not too far out, zeno draws on.
 #[test]
 fn zeno_goes_on_beyond_the_limits() {
+    let painted = |path: &[Command], width: usize| {
+        let painted = oracle::painted(&label(path, width, 1)).unwrap();
+        (painted.mask, painted.cells)
+    };
+    assert_eq!(painted(&[], 4097), (vec![0; 4097], 0));
     let wide = rectangle(0.0, 0.0, 4097.0, 1.0);
-    let painted = oracle::painted(&label(&wide, 4097, 1)).unwrap();
-    assert_eq!(painted.mask, vec![255; 4097]);
-    let far = rectangle(0.0, 0.0, 4096.00390625, 1.0);
-    let painted = oracle::painted(&label(&far, 4, 1)).unwrap();
-    assert_eq!((painted.mask, painted.cells), (vec![255; 4], 1));
+    assert_eq!(painted(&wide, 4097), (vec![255; 4097], 1));
+    let far = 4096.00390625;
+    assert_eq!(painted(&[Command::MoveTo(at(far, 0.0))], 1), (vec![0], 0));
+    assert_eq!(
+        painted(&rectangle(0.0, 0.0, far, 1.0), 4),
+        (vec![255; 4], 1)
+    );
 }
 
 /// The largest label: a pixel in each corner, and a rectangle from one end of the point rule to the

@@ -40,10 +40,10 @@ pub record Spot : Type 0 where  -- a point in 24.8 numbers: whole numbers of 256
   pub x : ℤ
   pub y : ℤ
 
-abbrev pub limit : ℕ  -- how far from zero a part of a point may lie, when cut: 4,096 pixels
+abbrev pub limit : ℕ  -- how far from zero a part of a point may lie, in 256ths of a pixel: 4,096 pixels
 limit = 1048576
 
-abbrev pub near : Float → Bool  -- finite, and when cut within the limit
+abbrev pub near : Float → Bool  -- finite, and within the limit when it is cut
 near v = finite v && leb (natAbs (fixedOf v)) limit
 
 abbrev pub passes : Point → Bool  -- the point rule: both parts are near

@@ -73,10 +73,10 @@ module _ (P Q : Float → Type 0) where
   box-keeps p ps (cons h hs) = from-keeps (boxAt p) ps (record { low = h; high = h }) hs
 
 -- ---- what passes the point rule reaches
-abbrev pub most : ℕ  -- in whole pixels, rounded up
-most = limit / 256 + 1
+abbrev pub farthest : ℕ  -- how far a part may lie, in whole pixels, rounded up
+farthest = limit / 256 + 1
 
-small : (m d : ℕ) → 0 < d → m * 256 / d ≤ limit → m ≤ most * d
+small : (m d : ℕ) → 0 < d → m * 256 / d ≤ limit → m ≤ farthest * d
 small m d D l =
     let h : m * 256 < (limit + 1) * d = div-lt-iff-lt-mul D .0 (omega arith) in
     omega arith
@@ -94,7 +94,7 @@ limited s n r e = go (leb n limit) refl e
 
 -- a part by the point rule: finite, and small
 pub data Small : Float → Type 0 where
-  small-part : {s : Bool} {m : ℕ} {e : ℤ} → m * up e ≤ most * down e → Small (fin s m e)
+  small-part : {s : Bool} {m : ℕ} {e : ℤ} → m * up e ≤ farthest * down e → Small (fin s m e)
 
 fixed-small : (v : Float) → isFixed (toFixed v) ≡ true → Small v
 unfolding toFixed
