@@ -33,7 +33,7 @@ const MOST_CELLS: usize = 16384;
 
 // Why a label is turned away.
 pub enum Refusal {
-    // 1: width or height above 2,048.
+    // 1: width or height above 4,096.
     Size,
     // 2: first > end, or end > height.
     Band,
