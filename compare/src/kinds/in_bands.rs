@@ -7,6 +7,7 @@ use compare::drawing::{any_step, at_a_boundary, Drawing, Way};
 use compare::driver::{self, Outcome};
 use compare::lent::Around;
 use compare::numbers::Dice;
+use compare::reading;
 use compare::shrink::Candidates;
 
 /// Calls with a step, made by one function of the dice.
@@ -64,9 +65,9 @@ impl Kind for InBands {
 
 /// The number; where a band's room decides, what the whole would be, and which band has none.
 fn heading(label: &Drawing, step: usize, expected: &Outcome) -> &'static str {
-    let at_once = || driver::outcome(label).number;
+    let room = || reading::judge_room(expected.cells, label.words.len(), label.rows());
     match expected.number {
-        0 if at_once() == 13 => "accepted, though 13 at once",
+        0 if room().is_err() => "accepted, though 13 at once",
         13 if first_band_has_room(label, step) => "refused 13 for a later band",
         number => NUMBERS[usize::from(number)],
     }
