@@ -26,8 +26,7 @@ impl Way {
     }
 }
 
-/// Labels of more rows are seldom cut finely: the port reads the list anew for each band, and walks
-/// its long lines.
+/// Labels of more rows are seldom cut finely: the port reads the list anew for each band.
 const HIGH: usize = 256;
 
 /// Few rows at a time, all of them, or more than there are.
@@ -43,7 +42,7 @@ pub fn any_step(rows: usize, dice: &mut Dice) -> usize {
         8 => dice.pick(&[beyond, usize::MAX]),
         _ => dice.below(beyond.min(64)),
     };
-    if rows > HIGH && !dice.one_in(64) {
+    if rows > HIGH && !dice.one_in(16) {
         return step.max(rows / 16);
     }
     step
