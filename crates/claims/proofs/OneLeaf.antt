@@ -49,6 +49,10 @@ use Rattle.command.proofs.Command.verb.Kinds as command-verb-kinds
 use Rattle.command.proofs.Command.verb.Reads as command-verb-reads
 use Rattle.command.proofs.Command.is_move.Kinds as command-is-move-kinds
 use Rattle.command.proofs.Command.is_move.Reads as command-is-move-reads
+use Rattle.command.proofs.Command.is_close.Kinds as command-is-close-kinds
+use Rattle.command.proofs.Command.is_close.Reads as command-is-close-reads
+use Rattle.command.proofs.Command.draws.Kinds as command-draws-kinds
+use Rattle.command.proofs.Command.draws.Reads as command-draws-reads
 use Rattle.command.proofs.Command.transform.Kinds as command-transform-kinds
 use Rattle.command.proofs.Command.transform.Reads as command-transform-reads
 use Rattle.float.proofs.from_bytes.Kinds as from-bytes-kinds
@@ -149,6 +153,12 @@ command-verb κs a z z′ e e′ p q = p ∙ sym q
 
 pub command-is-move : OneAnswer 0 command-is-move-kinds.ps command-is-move-kinds.r command-is-move-reads.Learnt
 command-is-move κs a z z′ e e′ p q = p ∙ sym q
+
+pub command-is-close : OneAnswer 0 command-is-close-kinds.ps command-is-close-kinds.r command-is-close-reads.Learnt
+command-is-close κs a z z′ e e′ p q = p ∙ sym q
+
+pub command-draws : OneAnswer 0 command-draws-kinds.ps command-draws-kinds.r command-draws-reads.Learnt
+command-draws κs a z z′ e e′ p q = p ∙ sym q
 
 pub command-transform : OneAnswer 0 command-transform-kinds.ps command-transform-kinds.r command-transform-reads.Learnt
 command-transform κs a z z′ e e′ p q = p ∙ sym q

@@ -3,25 +3,26 @@ use Prim.Native.Nat.{ℕ, zero, suc, _+_, _*_, _-_}
 use mathlib.Core.Path.{_≡_, refl, sym, ap}
 use mathlib.Core.Bool.{Bool, true, false, not, cond, _&&_, _||_}
 use mathlib.Core.List.{List}
+use mathlib.Core.Option.{Option, none, some}
 use native.Mathlib.Omega.{arith}
 use lib.Dec.{eqb, ltb}
 use lib.ListN.{length, replicate}
 use Rattle.geometry.specs.declared.Point.{Point}
 use Rattle.geometry.specs.declared.Transform.{Transform}
 use Rattle.command.specs.declared.Command.{Command}
-use Rattle.command.specs.Commands.{isMove, pointsOf}
+use Rattle.command.specs.Commands.{isMove, draws, pointsOf}
 use Rattle.list.specs.declared.Reason.{Reason}
 use Rattle.list.specs.declared.Reason.the-variants as reason
 use Rattle.list.specs.declared.Step.{Step}
 use Rattle.list.specs.declared.Step.the-variants as step
 use Rattle.list.specs.Records.{stepAt}
 use Rattle.path.specs.declared.Refusal.{Refusal}
-use Rattle.path.specs.declared.Refusal.the-variants.{Size, Band, Pitch, Mask, Workspace, NotFinite, Long, First, Outside}
+use Rattle.path.specs.declared.Refusal.the-variants.{Size, Band, Pitch, Mask, Workspace, NotFinite, Long, First, Outside, AfterClose}
 use Rattle.path.specs.declared.Verdict.{Verdict}
 use Rattle.path.specs.declared.Verdict.the-variants.{Fine, Faulty}
 use Rattle.path.specs.Refusals.{numberOf, refusalOf}
 use Rattle.path.specs.Inputs.{mostBytes, finitePoint, finiteTransform, inputsOf}
-use Rattle.path.specs.Reading.{Read, refused, path, before, judged, allPass, verdictOf, readStep, readFrom, readList}
+use Rattle.path.specs.Reading.{Read, refused, path, before, judged, allPass, afterClose, verdictOf, readStep, readFrom, readList}
 use Rattle.label.specs.declared.Label.{Label}
 use Rattle.label.specs.declared.Answer.the-variants.{Refused}
 use Rattle.label.specs.Checks.{mostPixels, mostPitch, rows, sizesOf, andThen, checkedOf}
@@ -74,9 +75,12 @@ checked : (l : Label) (list mask words : ℕ) → EarlyVerdict (checkedOf l list
 unfolding checkedOf
 checked l list mask words = then (sizesOf l mask words) (inputsOf (l .transform) (l .offset) list) (sizes l mask words) (inputs (l .transform) (l .offset) list)
 
-verdict : (t : Transform) (o : Point) (i : ℕ) (c : Command) → EarlyVerdict (verdictOf t o i c)
+verdict : (t : Transform) (o : Point) (i : ℕ) (closed : Bool) (c : Command) → EarlyVerdict (verdictOf t o i closed c)
 unfolding verdictOf
-verdict t o i c = either (eqb i 0 && not (isMove c)) _ _ (faulty First refl) (either (allPass t o (pointsOf c)) _ _ fine (faulty Outside refl))
+verdict t o i closed c =
+    either (eqb i 0 && not (isMove c)) _ _ (faulty First refl)
+    (either (closed && draws c) _ _ (faulty AfterClose refl)
+    (either (allPass t o (pointsOf c)) _ _ fine (faulty Outside refl)))
 
 reasons : (why : Reason) → Early (refusalOf why)
 reasons reason.Cut = refl
@@ -91,20 +95,20 @@ judging : (v : Verdict) (i : ℕ) (c : Command) (r : Read) → EarlyVerdict v �
 judging Fine i c r p q = behind c r q
 judging (Faulty w) i c r p q = p .early w refl
 
-stepping : (t : Transform) (o : Point) (i : ℕ) (s : Step) (rest : ℕ → Read) → ((n : ℕ) → EarlyRead (rest n)) → EarlyRead (readStep t o i s rest)
+stepping : (t : Transform) (o : Point) (i : ℕ) (p : Option Command) (s : Step) (rest : ℕ → Command → Read) → ((n : ℕ) (c : Command) → EarlyRead (rest n c)) → EarlyRead (readStep t o i p s rest)
 unfolding readStep
-stepping t o i step.End rest h = tt
-stepping t o i (step.Refused why) rest h = reasons why
-stepping t o i (step.Command c next) rest h = judging (verdictOf t o i c) i c (rest next) (verdict t o i c) (h next)
+stepping t o i p step.End rest h = tt
+stepping t o i p (step.Refused why) rest h = reasons why
+stepping t o i p (step.Command c next) rest h = judging (verdictOf t o i (afterClose p) c) i c (rest next c) (verdict t o i (afterClose p) c) (h next c)
 
-reading : (n : ℕ) (t : Transform) (o : Point) (s : List ℕ) (at i : ℕ) → EarlyRead (readFrom n t o s at i)
+reading : (n : ℕ) (t : Transform) (o : Point) (s : List ℕ) (at i : ℕ) (p : Option Command) → EarlyRead (readFrom n t o s at i p)
 unfolding readFrom
-reading zero t o s at i = tt
-reading (suc n) t o s at i = stepping t o i (stepAt s at) (λ next. readFrom n t o s next (i + 1)) (λ next. reading n t o s next (i + 1))
+reading zero t o s at i p = tt
+reading (suc n) t o s at i p = stepping t o i p (stepAt s at) (λ next c. readFrom n t o s next (i + 1) (some c)) (λ next c. reading n t o s next (i + 1) (some c))
 
 read : (t : Transform) (o : Point) (s : List ℕ) → EarlyRead (readList t o s)
 unfolding readList
-read t o s = reading (length s + 1) t o s 0 0
+read t o s = reading (length s + 1) t o s 0 0 none
 
 -- ---- the words afterwards
 

@@ -25,6 +25,22 @@ isMove (QuadTo c p) = false
 isMove (CurveTo c1 c2 p) = false
 isMove Close = false
 
+-- whether it is a Close
+abbrev pub isClose : Command → Bool
+isClose (MoveTo p) = false
+isClose (LineTo p) = false
+isClose (QuadTo c p) = false
+isClose (CurveTo c1 c2 p) = false
+isClose Close = true
+
+-- whether it draws: a LineTo, a QuadTo or a CurveTo
+abbrev pub draws : Command → Bool
+draws (MoveTo p) = false
+draws (LineTo p) = true
+draws (QuadTo c p) = true
+draws (CurveTo c1 c2 p) = true
+draws Close = false
+
 -- every point of a command, control points included, in order
 abbrev pub pointsOf : Command → List Point
 pointsOf (MoveTo p) = p ∷ []

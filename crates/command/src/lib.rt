@@ -3,7 +3,7 @@
 use geometry::Point;
 use geometry::Transform;
 ghost use mathlib.Core.Path.{_≡_};
-ghost use Rattle.command.specs.Commands.{verbOf, movedAll, isMove};
+ghost use Rattle.command.specs.Commands.{verbOf, movedAll, isMove, isClose, draws};
 
 pub enum Command {
     // Begins a new subpath at the point.
@@ -50,6 +50,32 @@ impl Command {
             Command::LineTo(_) => false,
             Command::QuadTo(_, _) => false,
             Command::CurveTo(_, _, _) => false,
+            Command::Close => false,
+        }
+    }
+
+    // Whether the command is a Close.
+    pub fn is_close(self) -> bool
+        ensures { λ r. ⌜ r ≡ isClose self ⌝ }
+    {
+        match self {
+            Command::MoveTo(_) => false,
+            Command::LineTo(_) => false,
+            Command::QuadTo(_, _) => false,
+            Command::CurveTo(_, _, _) => false,
+            Command::Close => true,
+        }
+    }
+
+    // Whether the command draws: a LineTo, a QuadTo or a CurveTo.
+    pub fn draws(self) -> bool
+        ensures { λ r. ⌜ r ≡ draws self ⌝ }
+    {
+        match self {
+            Command::MoveTo(_) => false,
+            Command::LineTo(_) => true,
+            Command::QuadTo(_, _) => true,
+            Command::CurveTo(_, _, _) => true,
             Command::Close => false,
         }
     }

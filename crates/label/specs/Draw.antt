@@ -69,7 +69,7 @@ inked full l mask words cs =
     cond full (outcome (Refused Full 0) mask (wiped words))
     (outcome (Drawn (length cs) (distinct (logOf l cs))) (paintedOf l (logOf l cs) mask) (wiped words))
 
--- a refusal by 1 to 12 changes neither mask nor words
+-- a refusal by 1 to 12 or 18 changes neither mask nor words
 abbrev pub turnedAway : Refusal → ℕ → List ℕ → List ℕ → Outcome
 turnedAway why index mask words = outcome (Refused why index) mask words
 

@@ -1,11 +1,11 @@
--- Every call, by the four ways in which a drawing ends: 1 to 5, 6 to 12, 13 and 0.
+-- Every call, by the four ways in which a drawing ends: 1 to 5, 6 to 12 and 18, 13, and 0.
 use Prim.Native.Nat.{ℕ, zero, suc, _<_}
 use mathlib.Core.Path.{_≡_, refl, sym, ap, _∙_}
 use mathlib.Core.Bool.{Bool, true, false}
 use mathlib.Core.List.{List}
 use mathlib.Core.Logic.{_↔_, _⊎_, inl, inr}
 use native.Mathlib.Omega.{arith}
-use native.Mathlib.Decide.{decLt}
+use native.Mathlib.Decide.{decLt, ℕ-discrete}
 use lib.ListN.{length, getD, replicate, length-replicate}
 use Rattle.command.specs.declared.Command.{Command}
 use Rattle.label.specs.declared.Label.{Label}
@@ -15,7 +15,7 @@ use Rattle.paper.specs.Cells.{cellsOf, distinct}
 use Rattle.paper.specs.Bytes.{painted}
 use Rattle.paper.specs.Drawing.{Outcome, refused, accepted, wiped, oneFull, inked, drawRead, drawIn}
 use Rattle.paper.specs.Demands.{number, In, place, Answered, EveryCall}
-use Rattle.paper.proofs.Faults.{size-most, Listed, ListedRead, list-listed}
+use Rattle.paper.proofs.Faults.{size-most, Listed, ListedRead, not-thirteen, answer-most, list-listed}
 use Rattle.paper.proofs.Pictures.{sound, pixel-at}
 
 one-path : {cs cs′ : List Command} → path cs ≡ path cs′ → cs ≡ cs′
@@ -79,7 +79,7 @@ module _ (bands : List Label) (l : Label) (s mask words : List ℕ) where
     of-size k e =
         let most = size-most l (length mask) (length words) in
         record {
-          answers = omega arith;
+          answers = inl (omega arith);
           sizes = λ n a b. (λ p. e ∙ p, λ q. sym e ∙ q);
           records = λ n i a b. (λ p. absurd (omega (arith, p .0)), λ q. absurd (omega (arith, q .0)));
           thirteen = (λ p. absurd (omega arith), λ q. absurd (omega (arith, q .1)));
@@ -95,20 +95,20 @@ module _ (bands : List Label) (l : Label) (s mask words : List ℕ) where
     of-fault : (n i : ℕ) → size ≡ 0 → read ≡ faulty n i → Listed n i → Good (refused n i mask words)
     of-fault n i e g h =
         let least = h .least in
-        let most = h .most in
+        let other = not-thirteen (h .most) in
         record {
-          answers = omega arith;
+          answers = answer-most (h .most);
           sizes = λ m a b. (λ p. absurd (omega arith), λ q. absurd (omega arith));
           records = λ m j a b.
               (λ p. (e, g ∙ same-fault (p .0) (p .1)), λ q. (one-number (sym g ∙ q .1), one-index (sym g ∙ q .1)));
-          thirteen = (λ p. absurd (omega arith), λ q. no-path (sym (q .2) ∙ g));
+          thirteen = (λ p. absurd (other p), λ q. no-path (sym (q .2) ∙ g));
           accepted = (λ p. absurd (omega arith), λ q. no-path (sym (q .2) ∙ g));
           counts = λ cs p q. absurd (omega arith);
           noCounts = λ p. (refl, refl);
-          noIndex = elim [ inl p ↦ h .none p | inr p ↦ absurd (omega arith) ];
+          noIndex = elim [ inl p ↦ h .none p | inr p ↦ absurd (other p) ];
           maskKept = λ p. refl;
           wordsKept = λ p q. refl;
-          wordsWiped = elim [ inl p ↦ absurd (omega arith) | inr p ↦ absurd (omega arith) ];
+          wordsWiped = elim [ inl p ↦ absurd (omega arith) | inr p ↦ absurd (other p) ];
         }
 
     module _ (cs : List Command) (e : size ≡ 0) (g : read ≡ path cs) where
@@ -117,16 +117,16 @@ module _ (bands : List Label) (l : Label) (s mask words : List ℕ) where
 
       of-full : oneFull (length words) cs bands ≡ true → Good (refused 13 0 mask (wiped words))
       of-full t = record {
-        answers = omega arith;
+        answers = inl (omega arith);
         sizes = λ m a b. (λ p. absurd (omega arith), λ q. absurd (omega arith));
-        records = λ m j a b. (λ p. absurd (omega (arith, p .0)), λ q. no-path (sym g ∙ q .1));
+        records = λ m j a b. (λ p. absurd (b (sym (p .0))), λ q. no-path (sym g ∙ q .1));
         thirteen = (λ p. (cs, e, g, asked cs .0 t), λ q. refl);
         accepted = (λ p. absurd (omega arith), λ q. absurd (q .3 (rw (one-path (sym (q .2) ∙ g)) (asked cs .0 t))));
         counts = λ cs p q. absurd (omega arith);
         noCounts = λ p. (refl, refl);
         noIndex = λ p. refl;
         maskKept = λ p. refl;
-        wordsKept = λ p q. absurd (omega arith);
+        wordsKept = λ p q. absurd (q refl);
         wordsWiped = λ p. refl;
       }
 
@@ -136,7 +136,7 @@ module _ (bands : List Label) (l : Label) (s mask words : List ℕ) where
       of-path : oneFull (length words) cs bands ≡ false → (after : List ℕ)
           → Good (accepted (length cs) (distinct (cellsOf l cs)) after (wiped words))
       of-path t after = record {
-        answers = omega arith;
+        answers = inl (omega arith);
         sizes = λ m a b. (λ p. absurd (omega arith), λ q. absurd (omega arith));
         records = λ m j a b. (λ p. absurd (omega (arith, p .0)), λ q. no-path (sym g ∙ q .1));
         thirteen = (λ p. absurd (omega arith), λ q. absurd (not-full t (same-full (q .0) (q .2) (q .3))));
@@ -269,13 +269,13 @@ module _ (bands : Label → List Label) (Full : Label → ℕ → List Command �
       zeros = length-replicate (length words) 0
 
       of-number : (o : Outcome) → Answered (Full l (length words)) l s mask words o
-          → Dec (0 < number o) → Dec (number o < 13) → length (o .words) ≡ length words
+          → Dec (0 < number o) → Dec (number o ≡ 13) → length (o .words) ≡ length words
       of-number o h (no a) b = ap length (h .wordsWiped (inl (omega arith))) ∙ zeros
-      of-number o h (yes a) (yes b) = ap length (h .wordsKept a b)
-      of-number o h (yes a) (no b) = let most = h .answers in ap length (h .wordsWiped (inr (omega arith))) ∙ zeros
+      of-number o h (yes a) (no b) = ap length (h .wordsKept a b)
+      of-number o h (yes a) (yes b) = ap length (h .wordsWiped (inr b)) ∙ zeros
 
       go : (o : Outcome) → Answered (Full l (length words)) l s mask words o → length (o .words) ≡ length words
-      go o h = of-number o h (decLt 0 (number o)) (decLt (number o) 13)
+      go o h = of-number o h (decLt 0 (number o)) (ℕ-discrete (number o) 13)
 
   -- after 0 and 13 two workspaces of one length are one
   both-wiped : (l : Label) (s mask words words′ : List ℕ) → length words ≡ length words′ → (o o′ : Outcome)

@@ -10,6 +10,7 @@ use Rattle.paper.specs.TurnedAway.{readList}
 use Rattle.paper.specs.Drawing.{oneFull, draw, bandsFrom, drawInBands}
 use Rattle.paper.specs.Placing.{origin}
 use Rattle.paper.specs.Demands.{EveryCall, TooMany, OneTooMany, Demand1}
+use Rattle.paper.proofs.Reading.{path-apart}
 use Rattle.paper.proofs.Calls.{by-bands}
 use Rattle.paper.proofs.BandsFrom.{one-full, full-one}
 use Rattle.paper.proofs.Boxes.{boxes, unboxed, places, bare}
@@ -35,6 +36,7 @@ pub demand1 : Demand1
 demand1 = record {
   atOnce = at-once;
   inBands = in-bands;
+  apart = path-apart;
   boxes = λ t s n i a. boxes t s n i a (readList t origin s) refl;
   noBox = λ t s. unboxed t s (readList t origin s) refl;
   places = λ g t o s n i a. places g t o s n i a (readList t o s) refl;

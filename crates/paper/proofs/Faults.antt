@@ -1,8 +1,10 @@
--- The numbers that the checks and the reading give: 1 to 5, and 6 to 12, of which 6 and 7 are no record's.
+-- The numbers that the checks and the reading give: 1 to 5, and 6 to 12 and 18, of which 6 and 7 are no record's.
 use Prim.Native.Nat.{ℕ, zero, suc, _+_, _-_, _*_, _≤_, _<_}
 use mathlib.Core.Path.{_≡_, refl}
 use mathlib.Core.Bool.{Bool, true, false, not, cond, _&&_, _||_}
 use mathlib.Core.List.{List, [], _∷_}
+use mathlib.Core.Logic.{_⊎_, inl, inr}
+use mathlib.Core.Option.{Option, none, some}
 use native.Mathlib.Omega.{arith}
 use lib.Dec.{ltb, eqb}
 use lib.ListN.{length, drop}
@@ -12,7 +14,8 @@ use Rattle.geometry.specs.declared.Transform.{Transform}
 use Rattle.command.specs.declared.Command.{Command}
 use Rattle.label.specs.declared.Label.{Label}
 use Rattle.paper.specs.PathList.{lengthIn, kindIn, lengthOf, commandIn, pointsOf}
-use Rattle.paper.specs.TurnedAway.{rows, mostPixels, sizeFault, allFinite, inputFault, allPass, recordFault}
+use Rattle.paper.specs.TurnedAway.{rows, mostPixels, sizeFault, allFinite, inputFault, allPass}
+use Rattle.paper.specs.TurnedAway.{afterClose, draws, recordFault}
 use Rattle.paper.specs.TurnedAway.{Read, path, faulty, before, readFrom, readList}
 
 first-of-five : (a b c d e : Bool) → cond {A = ℕ} a 1 (cond b 2 (cond c 3 (cond d 4 (cond e 5 0)))) ≤ 5
@@ -35,38 +38,49 @@ size-most l mask words = first-of-five
 -- ---- the fault of a record
 pub record Recorded (n : ℕ) : Type 0 where
   pub least : 8 ≤ n
-  pub most : n ≤ 12
+  pub most : (n ≤ 12) ⊎ (n ≡ 18)
 
-first-of-six : (a b c d e f : Bool) (n : ℕ)
-    → cond {A = ℕ} a 8 (cond b 9 (cond c 10 (cond d 8 (cond e 11 (cond f 12 0))))) ≡ n → 0 < n → Recorded n
-first-of-six true b c d e f n h g = record { least = omega arith; most = omega arith }
-first-of-six false true c d e f n h g = record { least = omega arith; most = omega arith }
-first-of-six false false true d e f n h g = record { least = omega arith; most = omega arith }
-first-of-six false false false true e f n h g = record { least = omega arith; most = omega arith }
-first-of-six false false false false true f n h g = record { least = omega arith; most = omega arith }
-first-of-six false false false false false true n h g = record { least = omega arith; most = omega arith }
-first-of-six false false false false false false n h g = absurd (omega arith)
+first-of-seven : (a b c d e f g : Bool) (n : ℕ)
+    → cond {A = ℕ} a 8 (cond b 9 (cond c 10 (cond d 8 (cond e 11 (cond f 18 (cond g 12 0)))))) ≡ n → 0 < n → Recorded n
+first-of-seven true b c d e f g n h k = record { least = omega arith; most = inl (omega arith) }
+first-of-seven false true c d e f g n h k = record { least = omega arith; most = inl (omega arith) }
+first-of-seven false false true d e f g n h k = record { least = omega arith; most = inl (omega arith) }
+first-of-seven false false false true e f g n h k = record { least = omega arith; most = inl (omega arith) }
+first-of-seven false false false false true f g n h k = record { least = omega arith; most = inl (omega arith) }
+first-of-seven false false false false false true g n h k = record { least = omega arith; most = inr (omega arith) }
+first-of-seven false false false false false false true n h k = record { least = omega arith; most = inl (omega arith) }
+first-of-seven false false false false false false false n h k = absurd (omega arith)
 
-record-most : (t : Transform) (o : Point) (i : ℕ) (s : List ℕ) (n : ℕ) → recordFault t o i s ≡ n → 0 < n → Recorded n
+record-most : (t : Transform) (o : Point) (i : ℕ) (prior : Option Command) (s : List ℕ) (n : ℕ) → recordFault t o i prior s ≡ n → 0 < n → Recorded n
 unfolding recordFault
-record-most t o i s n = first-of-six
+record-most t o i prior s n = first-of-seven
     (ltb (length s) 4)
     (ltb (kindIn s) 1 || ltb 5 (kindIn s))
     (not (eqb (lengthIn s) (lengthOf (kindIn s))))
     (ltb (length s) (lengthIn s + 2))
     (eqb i 0 && not (eqb (kindIn s) 1))
+    (afterClose prior && draws (commandIn s))
     (not (allPass t o (pointsOf (commandIn s))))
     n
 
 -- ---- the fault of a list
 pub record Listed (n i : ℕ) : Type 0 where
   pub least : 6 ≤ n
-  pub most : n ≤ 12
+  pub most : (n ≤ 12) ⊎ (n ≡ 18)
   pub none : n < 8 → i ≡ 0
 
 abbrev pub ListedRead : Read → Type 0
 ListedRead (path cs) = Unit {0}
 ListedRead (faulty n i) = Listed n i
+
+-- 13 is none of them, and each of them is a number that a call answers with
+pub not-thirteen : {n : ℕ} → (n ≤ 12) ⊎ (n ≡ 18) → ¬ (n ≡ 13)
+not-thirteen (inl h) p = omega arith
+not-thirteen (inr h) p = omega arith
+
+pub answer-most : {n : ℕ} → (n ≤ 12) ⊎ (n ≡ 18) → (n ≤ 13) ⊎ (n ≡ 18)
+answer-most (inl h) = inl (omega arith)
+answer-most (inr h) = inr h
 
 recorded : (n i : ℕ) → Recorded n → Listed n i
 recorded n i h =
@@ -77,14 +91,14 @@ before-listed : (c : Command) (r : Read) → ListedRead r → ListedRead (before
 before-listed c (path cs) h = tt
 before-listed c (faulty n i) h = h
 
-from-listed : (n : ℕ) (t : Transform) (o : Point) (i : ℕ) (s : List ℕ) → ListedRead (readFrom n t o i s)
+from-listed : (n : ℕ) (t : Transform) (o : Point) (i : ℕ) (prior : Option Command) (s : List ℕ) → ListedRead (readFrom n t o i prior s)
 unfolding readFrom
-from-listed zero t o i s = tt
-from-listed (suc n) t o i [] = tt
-from-listed (suc n) t o i (b ∷ bs) =
-    go (recordFault t o i (b ∷ bs)) (record-most t o i (b ∷ bs) (recordFault t o i (b ∷ bs)) refl)
-    (readFrom n t o (i + 1) (drop (lengthIn (b ∷ bs) + 2) (b ∷ bs)))
-    (from-listed n t o (i + 1) (drop (lengthIn (b ∷ bs) + 2) (b ∷ bs)))
+from-listed zero t o i prior s = tt
+from-listed (suc n) t o i prior [] = tt
+from-listed (suc n) t o i prior (b ∷ bs) =
+    go (recordFault t o i prior (b ∷ bs)) (record-most t o i prior (b ∷ bs) (recordFault t o i prior (b ∷ bs)) refl)
+    (readFrom n t o (i + 1) (some (commandIn (b ∷ bs))) (drop (lengthIn (b ∷ bs) + 2) (b ∷ bs)))
+    (from-listed n t o (i + 1) (some (commandIn (b ∷ bs))) (drop (lengthIn (b ∷ bs) + 2) (b ∷ bs)))
   where
     go : (k : ℕ) → (0 < k → Recorded k) → (r : Read) → ListedRead r
         → ListedRead (elim k as (λ _. Read) [ zero ↦ before (commandIn (b ∷ bs)) r | suc fault ↦ faulty (suc fault) i ])
@@ -93,12 +107,12 @@ from-listed (suc n) t o i (b ∷ bs) =
 
 first-of-two : (a b : Bool) (r : Read) → ListedRead r
     → ListedRead (elim (cond {A = ℕ} a 6 (cond b 7 0)) as (λ _. Read) [ zero ↦ r | suc fault ↦ faulty (suc fault) 0 ])
-first-of-two true b r h = record { least = omega arith; most = omega arith; none = λ g. refl }
-first-of-two false true r h = record { least = omega arith; most = omega arith; none = λ g. refl }
+first-of-two true b r h = record { least = omega arith; most = inl (omega arith); none = λ g. refl }
+first-of-two false true r h = record { least = omega arith; most = inl (omega arith); none = λ g. refl }
 first-of-two false false r h = h
 
 pub list-listed : (t : Transform) (o : Point) (s : List ℕ) → ListedRead (readList t o s)
 unfolding readList inputFault
 list-listed t o s = first-of-two
     (not (allFinite t && (finite (o .x) && finite (o .y)))) (ltb 65536 (length s))
-    (readFrom (length s + 1) t o 0 s) (from-listed (length s + 1) t o 0 s)
+    (readFrom (length s + 1) t o 0 none s) (from-listed (length s + 1) t o 0 none s)

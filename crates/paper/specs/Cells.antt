@@ -15,9 +15,8 @@ use Rattle.paper.specs.Curves.{quad, cubic}
 unfoldable pub spotIn : Label → Point → Spot  -- a point of the list in 24.8 numbers
 spotIn l p = let q = shifted (l .offset) (moved (l .transform) p) in record { x = fixedOf (q .x); y = fixedOf (q .y) }
 
--- what the pen does, from point a on, in a subpath begun at s. MoveTo and the end first draw a line back to s, which
--- gives nothing where the subpath is closed. A MoveTo enters its cell even where the pen is in it. After Close the pen
--- is at s
+-- what the pen does, from point a on, in a subpath begun at s. MoveTo, Close and the end draw a line back to s. Close
+-- leaves the pen at s, so that the next of them gives nothing. A MoveTo enters its cell even where the pen is in it
 unfoldable pub marks : Label → Spot → Spot → List Command → List Mark
 marks l a s [] = line l a s
 marks l a s (MoveTo p ∷ cs) =

@@ -4,9 +4,10 @@
 -- a promise.
 use Prim.Native.Nat.{ℕ, _+_, _-_, _*_, _≤_, _<_, min, max}
 use mathlib.Core.Path.{_≡_}
-use mathlib.Core.Bool.{true, false, cond}
+use mathlib.Core.Bool.{true, false, cond, _&&_}
 use mathlib.Core.List.{List, [], _∷_}
 use mathlib.Core.Logic.{_↔_, _⊎_}
+use mathlib.Core.Option.{Option, none, some}
 use lib.ListN.{length, getD}
 use lib.IntN.{pos}
 use Rattle.geometry.specs.declared.Point.{Point}
@@ -15,7 +16,7 @@ use Rattle.geometry.specs.declared.Origin.{Origin}
 use Rattle.command.specs.declared.Command.{Command}
 use Rattle.label.specs.declared.Label.{Label}
 use Rattle.paper.specs.Floats.{passes}
-use Rattle.paper.specs.TurnedAway.{rows, sizeFault, path, faulty, readList}
+use Rattle.paper.specs.TurnedAway.{rows, sizeFault, afterClose, draws, path, faulty, readList}
 use Rattle.paper.specs.Cells.{cellsOf, distinct}
 use Rattle.paper.specs.Bytes.{value, byteOf}
 use Rattle.paper.specs.Drawing.{Outcome, pool, wiped, draw, band, drawInBands}
@@ -40,11 +41,11 @@ place l y x = l .pitch * cond (l .up) (l .end - 1 - y) (y - l .first) + x
 -- what a call leaves, o, of the label l, the list s, the mask and the words. `Full cs` says that the path cs stores
 -- into more places than the pool has
 pub record Answered (Full : List Command → Type 0) (l : Label) (s mask words : List ℕ) (o : Outcome) : Type 0 where
-  pub answers : number o ≤ 13
+  pub answers : (number o ≤ 13) ⊎ (number o ≡ 18)
   -- 1 to 5: what the sizes alone say
   pub sizes : (n : ℕ) → 1 ≤ n → n ≤ 5 → number o ≡ n ↔ sizeFault l (length mask) (length words) ≡ n
-  -- 6 to 12, with the record's index: the sizes are right, and what the list is read as says so
-  pub records : (n i : ℕ) → 6 ≤ n → n ≤ 12
+  -- 6 to 12 and 18, with the record's index: the sizes are right, and what the list is read as says so
+  pub records : (n i : ℕ) → 6 ≤ n → ¬ (n ≡ 13)
       → (number o ≡ n) × (o .answer .index ≡ i)
       ↔ (sizeFault l (length mask) (length words) ≡ 0) × (readList (l .transform) (l .offset) s ≡ faulty n i)
   -- 13: the sizes are right, the list is a path, and it is too much for the pool
@@ -59,10 +60,10 @@ pub record Answered (Full : List Command → Type 0) (l : Label) (s mask words :
   pub counts : (cs : List Command) → number o ≡ 0 → readList (l .transform) (l .offset) s ≡ path cs
       → (o .answer .records ≡ length cs) × (o .answer .cells ≡ distinct (cellsOf l cs))
   pub noCounts : 0 < number o → (o .answer .records ≡ 0) × (o .answer .cells ≡ 0)
-  -- 8 to 12 alone are the fault of a record
+  -- 8 to 12 and 18 alone are the fault of a record
   pub noIndex : (number o < 8) ⊎ (number o ≡ 13) → o .answer .index ≡ 0
   pub maskKept : 0 < number o → o .mask ≡ mask
-  pub wordsKept : 0 < number o → number o < 13 → o .words ≡ words
+  pub wordsKept : 0 < number o → ¬ (number o ≡ 13) → o .words ≡ words
   pub wordsWiped : (number o ≡ 0) ⊎ (number o ≡ 13) → o .words ≡ wiped words
 
 pub record EveryCall (drawing : Drawing) (Full : Label → ℕ → List Command → Type 0) : Type 0 where
@@ -86,6 +87,11 @@ pub record EveryCall (drawing : Drawing) (Full : Label → ℕ → List Command 
       (o .answer ≡ o′ .answer) × (o .words ≡ o′ .words)
       × ((y x : ℕ) → number o ≡ 0 → In l y x → getD (o .mask) (place l y x) 0 ≡ getD (o′ .mask) (place l y x) 0)
 
+-- no command of a path, behind the command `prior`, draws directly after Close
+unfoldable pub Apart : Option Command → List Command → Type 0
+Apart prior [] = Unit {0}
+Apart prior (c ∷ cs) = (afterClose prior && draws c ≡ false) × Apart (some c) cs
+
 abbrev pub TooMany : Label → ℕ → List Command → Type 0  -- drawn at once, with so many words
 TooMany l words cs = pool l words < distinct (cellsOf l cs)
 
@@ -99,7 +105,9 @@ OneTooMany step l words cs =
 pub record Demand1 : Type 0 where
   pub atOnce : EveryCall draw TooMany
   pub inBands : (step : ℕ) → EveryCall (drawInBands step) (OneTooMany step)
-  -- bounds and placements know 6 to 12 alone, as the list is read
+  -- what is read as a path has no drawing after Close
+  pub apart : (t : Transform) (o : Point) (s : List ℕ) (cs : List Command) → readList t o s ≡ path cs → Apart none cs
+  -- bounds and placements know 6 to 12 and 18 alone, as the list is read
   pub boxes : (t : Transform) (s : List ℕ) (n i : ℕ) → 1 ≤ n
       → (bounds t s .number ≡ n) × (bounds t s .index ≡ i) ↔ readList t origin s ≡ faulty n i
   -- refused, they are all 0

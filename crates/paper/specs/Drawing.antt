@@ -54,7 +54,7 @@ drawRead bands l (faulty number index) mask words = refused number index mask wo
 drawRead bands l (path cs) mask words =
     inked (oneFull (length words) cs bands) l (length cs) (cellsOf l cs) mask words
 
--- the label l drawn in these bands: 1 to 5, then 6 to 12, and only then 13
+-- the label l drawn in these bands: 1 to 5, then 6 to 12 and 18, and only then 13
 unfoldable pub drawIn : List Label → Label → List ℕ → List ℕ → List ℕ → Outcome
 drawIn bands l s mask words =
     elim (sizeFault l (length mask) (length words)) [

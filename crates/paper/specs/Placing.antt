@@ -54,7 +54,7 @@ boxed n i b = record {
   «max_y» = b .max .y;
 }
 
--- 6 to 12 for the list with the offset (0,0), which is not added to the box; refused, all of the box is 0
+-- 6 to 12 and 18 for the list with the offset (0,0), which is not added to the box; refused, all of the box is 0
 unfoldable pub bounds : Transform → List ℕ → BoxNumbers
 bounds t s =
     elim (readList t origin s) [
@@ -114,7 +114,7 @@ unlaid n i = record {
 abbrev pub around : Origin → Point → Bounds → PlaceNumbers  -- the offset is added to the box
 around g o b = laid g (shifted o (b .min)) (shifted o (b .max))
 
--- 6 to 12 for the list with its offset; of an empty list the offset alone must pass the point rule, or it is 12
+-- 6 to 12 and 18 for the list with its offset; of an empty list the offset alone must pass the point rule, or it is 12
 unfoldable pub placementOf : Origin → Transform → Point → Read → PlaceNumbers
 placementOf g t o (faulty number index) = unlaid number index
 placementOf g t o (path []) = cond (passes o) (around g o (boxOf [])) (unlaid 12 0)

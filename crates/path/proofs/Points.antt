@@ -14,10 +14,10 @@ use Rattle.fixed.specs.declared.Spot.the-variants as spot
 use Rattle.fixed.proofs.Range.{spot-within}
 use Rattle.line.specs.Range.{Reach}
 use Rattle.command.specs.declared.Command.{Command}
-use Rattle.command.specs.Commands.{isMove, pointsOf}
+use Rattle.command.specs.Commands.{isMove, draws, pointsOf}
 use Rattle.raster.specs.Path.{corner}
 use Rattle.path.specs.declared.Verdict.the-variants.{Fine, Faulty}
-use Rattle.path.specs.declared.Refusal.the-variants.{First, Outside}
+use Rattle.path.specs.declared.Refusal.the-variants.{First, Outside, AfterClose}
 use Rattle.path.specs.Reading.{spotAt, passed, allPass, verdictOf}
 use Rattle.path.specs.Strokes.{fixedAt}
 
@@ -53,8 +53,8 @@ module _ (t : Transform) (o : Point) where
   unfolding allPass
   fails-three p q r e = rw e
 
-  module _ (i : ℕ) (k : Command) where
-    pub no-move : i ≡ 0 → isMove k ≡ false → Faulty First ≡ verdictOf t o i k
+  module _ (i : ℕ) (closed : Bool) (k : Command) where
+    pub no-move : i ≡ 0 → isMove k ≡ false → Faulty First ≡ verdictOf t o i closed k
     unfolding verdictOf
     no-move z m = rw (eq-eqb i 0 z, m)
 
@@ -68,13 +68,28 @@ module _ (t : Transform) (o : Point) where
     pub begins-later : (i ≡ 0 → ⊥) → Begins
     begins-later z = record { fair = rw (ne-eqb i 0 z) }
 
-    pub fine : Begins → allPass t o (pointsOf k) ≡ true → Fine ≡ verdictOf t o i k
+    pub draws-on : Begins → closed ≡ true → draws k ≡ true → Faulty AfterClose ≡ verdictOf t o i closed k
     unfolding verdictOf
-    fine b e = rw (b .fair, e)
+    draws-on b e d = rw (b .fair, e, d)
 
-    pub strays : Begins → allPass t o (pointsOf k) ≡ false → Faulty Outside ≡ verdictOf t o i k
+    -- nor does 18
+    pub record Follows : Type 0 where
+      pub begins : Begins
+      pub apart : (closed && draws k) ≡ false
+
+    pub follows-open : Begins → closed ≡ false → Follows
+    follows-open b e = record { begins = b; apart = rw e }
+
+    pub follows-close : Begins → closed ≡ true → draws k ≡ false → Follows
+    follows-close b e d = record { begins = b; apart = rw (e, d) }
+
+    pub fine : Follows → allPass t o (pointsOf k) ≡ true → Fine ≡ verdictOf t o i closed k
     unfolding verdictOf
-    strays b e = rw (b .fair, e)
+    fine b e = rw (b .begins .fair, b .apart, e)
+
+    pub strays : Follows → allPass t o (pointsOf k) ≡ false → Faulty Outside ≡ verdictOf t o i closed k
+    unfolding verdictOf
+    strays b e = rw (b .begins .fair, b .apart, e)
 
 -- ---- within reach
 pub corner-near : Reach corner

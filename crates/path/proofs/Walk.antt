@@ -1,12 +1,15 @@
 -- The loop over a list's records keeps what is left to read.
 use Prim.Native.Nat.{ℕ, zero, suc, _+_, _-_, _≤_, _<_}
 use mathlib.Core.Path.{_≡_, refl, sym, ap, _∙_}
+use mathlib.Core.Bool.{Bool, false}
 use mathlib.Core.List.{List, [], _∷_}
+use mathlib.Core.Option.{Option, none, some}
 use native.Mathlib.Omega.{arith}
 use lib.ListN.{length}
 use Rattle.geometry.specs.declared.Point.{Point}
 use Rattle.geometry.specs.declared.Transform.{Transform}
 use Rattle.command.specs.declared.Command.{Command}
+use Rattle.command.specs.Commands.{isClose}
 use Rattle.list.specs.declared.Reason.{Reason}
 use Rattle.list.specs.declared.Step.the-variants as step
 use Rattle.list.specs.Records.{stepAt}
@@ -17,7 +20,7 @@ use Rattle.path.specs.declared.Judged.the-variants.{Records, Refused}
 use Rattle.path.specs.declared.Verdict.{Verdict}
 use Rattle.path.specs.declared.Verdict.the-variants.{Fine, Faulty}
 use Rattle.path.specs.Refusals.{refusalOf}
-use Rattle.path.specs.Reading.{Read, refused, path, before, judged, verdictOf, readStep, readFrom, readList, judgedOf}
+use Rattle.path.specs.Reading.{Read, refused, path, before, judged, afterClose, verdictOf, readStep, readFrom, readList, judgedOf}
 
 -- ---- a list that was read: its commands are its own, and it was not refused
 pub same-commands : {xs ys : List Command} → path xs ≡ path ys → xs ≡ ys
@@ -42,38 +45,43 @@ tallied-one n c (refused w i) = refl
 
 module _ (t : Transform) (o : Point) (s : List ℕ) where
   -- one step, where there is fuel
-  pub one : (f at i : ℕ) → 0 < f → readFrom f t o s at i ≡ readStep t o i (stepAt s at) (λ next. readFrom (f - 1) t o s next (i + 1))
+  pub one : (f at i : ℕ) (p : Option Command) → 0 < f
+      → readFrom f t o s at i p ≡ readStep t o i p (stepAt s at) (λ next c. readFrom (f - 1) t o s next (i + 1) (some c))
   unfolding readFrom
-  one zero at i h = absurd (omega arith)
-  one (suc f) at i h =
+  one zero at i p h = absurd (omega arith)
+  one (suc f) at i p h =
       let e : suc f - 1 ≡ f = omega arith in
       rw e
 
-  -- n records have been judged, and from `at` on what is left is judged as the whole
-  pub record Going (at n : ℕ) : Type 0 where
+  -- n records have been judged, and from `at` on what is left is judged as the whole, behind the last of them
+  pub record Going (at n : ℕ) (closed : Bool) : Type 0 where
     pub fuel : ℕ
+    pub last : Option Command
+    pub close : closed ≡ afterClose last
     pub enough : length s < fuel + at
     pub inside : at ≤ length s
     pub few : n ≤ at
-    pub same : tallied n (readFrom fuel t o s at n) ≡ judgedOf (readList t o s)
+    pub same : tallied n (readFrom fuel t o s at n last) ≡ judgedOf (readList t o s)
 
-  pub started : Going 0 0
+  pub started : Going 0 0 false
   unfolding readList
   started = record {
     fuel = length s + 1;
+    last = none;
+    close = refl;
     enough = omega arith;
     inside = omega arith;
     few = omega arith;
-    same = tallied-none (readFrom (length s + 1) t o s 0 0);
+    same = tallied-none (readFrom (length s + 1) t o s 0 0 none);
   }
 
-  module _ (at n : ℕ) (g : Going at n) where
-    rest : ℕ → Read
-    rest next = readFrom (g .fuel - 1) t o s next (n + 1)
+  module _ (at n : ℕ) {closed : Bool} (g : Going at n closed) where
+    rest : ℕ → Command → Read
+    rest next c = readFrom (g .fuel - 1) t o s next (n + 1) (some c)
 
-    step-is : tallied n (readStep t o n (stepAt s at) rest) ≡ judgedOf (readList t o s)
+    step-is : tallied n (readStep t o n (g .last) (stepAt s at) rest) ≡ judgedOf (readList t o s)
     unfolding rest
-    step-is = ap (tallied n) (sym (one (g .fuel) at n (omega arith))) ∙ g .same
+    step-is = ap (tallied n) (sym (one (g .fuel) at n (g .last) (omega arith))) ∙ g .same
 
     pub ended : stepAt s at ≡ step.End → Records n ≡ judgedOf (readList t o s)
     unfolding readStep
@@ -86,24 +94,26 @@ module _ (t : Transform) (o : Point) (s : List ℕ) where
     turned w e = rw e at step-is
 
     module _ (c : Command) (next : ℕ) (e : stepAt s at ≡ step.Command c next) where
-      pub faulty : (w : Refusal) → verdictOf t o n c ≡ Faulty w → Refused w n ≡ judgedOf (readList t o s)
+      pub faulty : (w : Refusal) → verdictOf t o n closed c ≡ Faulty w → Refused w n ≡ judgedOf (readList t o s)
       unfolding readStep
-      faulty w v = rw (e, v) at step-is
+      faulty w v = rw (e, rw (g .close) at v) at step-is
 
-      goes : verdictOf t o n c ≡ Fine → tallied n (before c (rest next)) ≡ judgedOf (readList t o s)
+      goes : verdictOf t o n closed c ≡ Fine → tallied n (before c (rest next c)) ≡ judgedOf (readList t o s)
       unfolding readStep
-      goes v = rw (e, v) at step-is
+      goes v = rw (e, rw (g .close) at v) at step-is
 
-      pub goes-on : verdictOf t o n c ≡ Fine → Going next (n + 1)
+      pub goes-on : {closed′ : Bool} → closed′ ≡ isClose c → verdictOf t o n closed c ≡ Fine → Going next (n + 1) closed′
       unfolding rest
-      goes-on v =
+      goes-on k v =
           let b = next-in s at c next e in
           record {
             fuel = g .fuel - 1;
+            last = some c;
+            close = k;
             enough = omega (arith, b .past, b .inside);
             inside = b .inside;
             few = omega (arith, b .past);
-            same = sym (tallied-one n c (rest next)) ∙ goes v;
+            same = sym (tallied-one n c (rest next c)) ∙ goes v;
           }
 
   -- ---- an accepted list: what is left of it are commands
@@ -112,14 +122,15 @@ module _ (t : Transform) (o : Point) (s : List ℕ) where
   pub record Unread (at : ℕ) (rest : List Command) : Type 0 where
     pub fuel : ℕ
     pub index : ℕ
+    pub last : Option Command
     pub enough : length s < fuel + at
     pub inside : at ≤ length s
-    pub reads : readFrom fuel t o s at index ≡ path rest
+    pub reads : readFrom fuel t o s at index last ≡ path rest
 
   -- at first all of them
   pub all-unread : (cs : List Command) → readList t o s ≡ path cs → Unread 0 cs
   unfolding readList
-  all-unread cs e = record { fuel = length s + 1; index = 0; enough = omega arith; inside = omega arith; reads = e }
+  all-unread cs e = record { fuel = length s + 1; index = 0; last = none; enough = omega arith; inside = omega arith; reads = e }
 
   -- a command, and the commands behind it
   pub record Onward (c : Command) (next : ℕ) (cs : List Command) : Type 0 where
@@ -128,12 +139,12 @@ module _ (t : Transform) (o : Point) (s : List ℕ) where
     pub unread : Unread next behind
 
   module _ (at : ℕ) (cs : List Command) (u : Unread at cs) where
-    later : ℕ → Read
-    later next = readFrom (u .fuel - 1) t o s next (u .index + 1)
+    later : ℕ → Command → Read
+    later next c = readFrom (u .fuel - 1) t o s next (u .index + 1) (some c)
 
-    here : readStep t o (u .index) (stepAt s at) later ≡ path cs
+    here : readStep t o (u .index) (u .last) (stepAt s at) later ≡ path cs
     unfolding later
-    here = sym (one (u .fuel) at (u .index) (omega (arith, u .enough, u .inside))) ∙ u .reads
+    here = sym (one (u .fuel) at (u .index) (u .last) (omega (arith, u .enough, u .inside))) ∙ u .reads
 
     pub at-the-end : stepAt s at ≡ step.End → cs ≡ []
     unfolding readStep
@@ -144,21 +155,21 @@ module _ (t : Transform) (o : Point) (s : List ℕ) where
     never-refused w e = refused-not-path (rw e at here)
 
     module _ (c : Command) (next : ℕ) (e : stepAt s at ≡ step.Command c next) where
-      split : (r : Read) → later next ≡ r → before c r ≡ path cs → Onward c next cs
+      split : (r : Read) → later next c ≡ r → before c r ≡ path cs → Onward c next cs
       unfolding later
       split (path bs) h p =
           let b = next-in s at c next e in
           record {
             behind = bs;
             splits = cc;
-            unread = record { fuel = u .fuel - 1; index = u .index + 1; enough = omega (arith, u .enough, b .past, b .inside); inside = b .inside; reads = h };
+            unread = record { fuel = u .fuel - 1; index = u .index + 1; last = some c; enough = omega (arith, u .enough, b .past, b .inside); inside = b .inside; reads = h };
           }
       split (refused w k) h p = absurd (refused-not-path p)
 
-      judge-split : (v : Verdict) → judged v (u .index) c (later next) ≡ path cs → Onward c next cs
-      judge-split Fine p = split (later next) refl p
+      judge-split : (v : Verdict) → judged v (u .index) c (later next c) ≡ path cs → Onward c next cs
+      judge-split Fine p = split (later next c) refl p
       judge-split (Faulty w) p = absurd (refused-not-path p)
 
       pub onward : Onward c next cs
       unfolding readStep
-      onward = judge-split (verdictOf t o (u .index) c) (rw e at here)
+      onward = judge-split (verdictOf t o (u .index) (afterClose (u .last)) c) (rw e at here)

@@ -1,8 +1,9 @@
 -- docs/RULES.md, "When a label is turned away": the records in their order, up to one that is refused. Of a record
--- `list` asks first whether its header is whole, 9, 10 and whether its body is whole; then come 11 and 12.
+-- `list` asks first whether its header is whole, 9, 10 and whether its body is whole; then come 11, 18 and 12.
 use Prim.Native.Nat.{ℕ, zero, suc, _+_}
 use mathlib.Core.Bool.{Bool, true, false, not, cond, _&&_}
 use mathlib.Core.List.{List, [], _∷_}
+use mathlib.Core.Option.{Option, none, some}
 use lib.ListN.{length}
 use lib.Dec.{eqb}
 use lib.Ieee.{add, mul}
@@ -13,12 +14,12 @@ use Rattle.fixed.specs.declared.Spot.{Spot}
 use Rattle.fixed.specs.declared.Spot.the-variants as spot
 use Rattle.fixed.specs.Fixed.{spotOf}
 use Rattle.command.specs.declared.Command.{Command}
-use Rattle.command.specs.Commands.{isMove, pointsOf}
+use Rattle.command.specs.Commands.{isMove, isClose, draws, pointsOf}
 use Rattle.list.specs.declared.Step.{Step}
 use Rattle.list.specs.declared.Step.the-variants as step
 use Rattle.list.specs.Records.{stepAt}
 use Rattle.path.specs.declared.Refusal.{Refusal}
-use Rattle.path.specs.declared.Refusal.the-variants.{First, Outside}
+use Rattle.path.specs.declared.Refusal.the-variants.{First, Outside, AfterClose}
 use Rattle.path.specs.declared.Verdict.{Verdict}
 use Rattle.path.specs.declared.Verdict.the-variants.{Fine, Faulty}
 use Rattle.path.specs.declared.Judged.{Judged}
@@ -39,13 +40,20 @@ unfolding spotAt
 allPass t o [] = true
 allPass t o (p ∷ ps) = passed (spotAt t o p) && allPass t o ps
 
--- the record of index i: 11, the list begins with no MoveTo; 12, the point rule refuses a point
-unfoldable pub verdictOf : Transform → Point → ℕ → Command → Verdict
+-- whether a record stands directly after Close, by the command before it: the first record has none
+abbrev pub afterClose : Option Command → Bool
+afterClose none = false
+afterClose (some c) = isClose c
+
+-- the record of index i, directly after Close or not: 11, the list begins with no MoveTo; 18, it draws directly after
+-- Close; 12, the point rule refuses a point
+unfoldable pub verdictOf : Transform → Point → ℕ → Bool → Command → Verdict
 unfolding allPass
-verdictOf t o i c =
+verdictOf t o i closed c =
     cond (eqb i 0 && not (isMove c)) (Faulty First)
+    (cond (closed && draws c) (Faulty AfterClose)
     (cond (allPass t o (pointsOf c)) Fine
-    (Faulty Outside))
+    (Faulty Outside)))
 
 -- a list as it is read: its commands, or the first fault and the index of its record
 pub data Read : Type 0 where
@@ -60,22 +68,24 @@ abbrev pub judged : Verdict → ℕ → Command → Read → Read
 judged Fine i c rest = before c rest
 judged (Faulty w) i c rest = refused w i
 
--- what is read where this stands, `rest` being what is read from a place on
-unfoldable pub readStep : Transform → Point → ℕ → Step → (ℕ → Read) → Read
+-- what is read where this stands behind the command p, if there is one; `rest` is what is read from a place on, behind a
+-- command
+unfoldable pub readStep : Transform → Point → ℕ → Option Command → Step → (ℕ → Command → Read) → Read
 unfolding verdictOf
-readStep t o i step.End rest = path []
-readStep t o i (step.Refused why) rest = refused (refusalOf why) i
-readStep t o i (step.Command c next) rest = judged (verdictOf t o i c) i c (rest next)
+readStep t o i p step.End rest = path []
+readStep t o i p (step.Refused why) rest = refused (refusalOf why) i
+readStep t o i p (step.Command c next) rest = judged (verdictOf t o i (afterClose p) c) i c (rest next c)
 
--- from a place and the index i on. A record has four bytes or more, so fuel above the number of bytes that are left suffices
-unfoldable pub readFrom : ℕ → Transform → Point → List ℕ → ℕ → ℕ → Read
+-- from a place and the index i on, behind the command p. A record has four bytes or more, so fuel above the number of
+-- bytes that are left suffices
+unfoldable pub readFrom : ℕ → Transform → Point → List ℕ → ℕ → ℕ → Option Command → Read
 unfolding readStep stepAt
-readFrom zero t o s at i = path []
-readFrom (suc n) t o s at i = readStep t o i (stepAt s at) (λ next. readFrom n t o s next (i + 1))
+readFrom zero t o s at i p = path []
+readFrom (suc n) t o s at i p = readStep t o i p (stepAt s at) (λ next c. readFrom n t o s next (i + 1) (some c))
 
 unfoldable pub readList : Transform → Point → List ℕ → Read
 unfolding readFrom
-readList t o s = readFrom (length s + 1) t o s 0 0
+readList t o s = readFrom (length s + 1) t o s 0 0 none
 
 -- how many records an accepted list has
 unfoldable pub judgedOf : Read → Judged

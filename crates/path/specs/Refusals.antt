@@ -3,7 +3,7 @@ use Prim.Native.Nat.{ℕ}
 use Rattle.list.specs.declared.Reason.{Reason}
 use Rattle.list.specs.declared.Reason.the-variants as reason
 use Rattle.path.specs.declared.Refusal.{Refusal}
-use Rattle.path.specs.declared.Refusal.the-variants.{Size, Band, Pitch, Mask, Workspace, NotFinite, Long, Cut, Kind, Length, First, Outside, Full}
+use Rattle.path.specs.declared.Refusal.the-variants.{Size, Band, Pitch, Mask, Workspace, NotFinite, Long, Cut, Kind, Length, First, Outside, Full, AfterClose}
 
 abbrev pub numberOf : Refusal → ℕ
 numberOf Size = 1
@@ -19,6 +19,7 @@ numberOf Length = 10
 numberOf First = 11
 numberOf Outside = 12
 numberOf Full = 13
+numberOf AfterClose = 18
 
 -- the refusal of a record that cannot be read
 abbrev pub refusalOf : Reason → Refusal

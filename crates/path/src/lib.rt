@@ -59,6 +59,8 @@ pub enum Refusal {
     Outside,
     // 13: more places than the pool holds.
     Full,
+    // 18: a LineTo, QuadTo or CurveTo directly after Close.
+    AfterClose,
 }
 
 // A judgement: nothing is at fault, or this is.
@@ -84,6 +86,7 @@ pub fn number_of(why: Refusal) -> u32
         Refusal::First => 11,
         Refusal::Outside => 12,
         Refusal::Full => 13,
+        Refusal::AfterClose => 18,
     }
 }
 
@@ -166,14 +169,17 @@ fn all_pass(t: Transform, o: Point, k: Command) -> bool
     }
 }
 
-// The record of index i: 11, then 12.
-fn verdict_of(t: Transform, o: Point, i: u32, k: Command) -> Verdict
-    ensures { λ r. ⌜ r ≡ verdictOf t o i k ⌝ }
+// The record of index i: 11, then 18, then 12. `closed` says whether the record directly before it is Close.
+fn verdict_of(t: Transform, o: Point, i: u32, closed: bool, k: Command) -> Verdict
+    ensures { λ r. ⌜ r ≡ verdictOf t o i closed k ⌝ }
 {
     if i == 0 {
         if !k.is_move() {
             return Verdict::Faulty(Refusal::First);
         }
+    }
+    if closed && k.draws() {
+        return Verdict::Faulty(Refusal::AfterClose);
     }
     if all_pass(t, o, k) {
         return Verdict::Fine;
@@ -194,6 +200,7 @@ pub fn judge(list: &[u8], t: Transform, o: Point) -> Judged
 {
     let mut at: usize = 0;
     let mut n: u32 = 0;
+    let mut closed = false;
     loop {
         match list::step_at(list, at) {
             Step::End => {
@@ -203,10 +210,11 @@ pub fn judge(list: &[u8], t: Transform, o: Point) -> Judged
                 return Judged::Refused(refusal_of(why), n);
             }
             Step::Command(k, next) => {
-                match verdict_of(t, o, n, k) {
+                match verdict_of(t, o, n, closed, k) {
                     Verdict::Fine => {
                         n += 1;
                         at = next;
+                        closed = k.is_close();
                     }
                     Verdict::Faulty(why) => {
                         return Judged::Refused(why, n);

@@ -4,6 +4,7 @@ use Prim.Native.Nat.{ℕ, _+_, _*_, _/_, _%_, _^_, _≤_, _<_}
 use mathlib.Core.Path.{_≡_, refl}
 use mathlib.Core.Bool.{Bool, true, false, not, cond}
 use mathlib.Core.List.{List, [], _∷_, _++_, map}
+use mathlib.Core.Option.{Option}
 use native.Mathlib.Nat.{div-lt-iff-lt-mul}
 use native.Mathlib.Omega.{arith}
 use lib.Dec.{leb, eqb}
@@ -23,10 +24,10 @@ use Rattle.fixed.specs.Fixed.{limit, heldOf, pickFix, withinLimit, toFixed, spo
 use Rattle.line.proofs.Tests.{both-true}
 use Rattle.command.specs.declared.Command.{Command}
 use Rattle.command.specs.Commands.{pointsOf}
-use Rattle.path.specs.Reading.{path, passed, spotAt, allPass, readList}
+use Rattle.path.specs.Reading.{path, passed, spotAt, allPass, afterClose, readList}
 use Rattle.placing.specs.Placing.{pathPoints, pathBox}
 use Rattle.placing.specs.Measuring.{Lies}
-use Rattle.placing.proofs.Accepted.{Begins, FineFrom, none, more, all-fine, begins, points-pass}
+use Rattle.placing.proofs.Accepted.{Begins, FineFrom, end, more, all-fine, begins, points-pass}
 
 -- ---- what every point has
 pub data Every (P : Point → Type 0) : List Point → Type 0 where
@@ -149,10 +150,10 @@ module _ (t : Transform) (o : Point) where
       let b = both-true (passed (spotAt t o p)) (allPass t o ps) h in
       cons (spot-placed p (b .0)) (all-placed ps (b .1))
 
-  path-placed : {i : ℕ} {cs : List Command} → FineFrom t o i cs → Every Placed (pathPoints t cs)
+  path-placed : {i : ℕ} {p : Option Command} {cs : List Command} → FineFrom t o i p cs → Every Placed (pathPoints t cs)
   unfolding pathPoints
-  path-placed none = nil
-  path-placed {i} (more {c = c} v h) = every-append (all-placed (pointsOf c) (points-pass t o i c v)) (path-placed h)
+  path-placed end = nil
+  path-placed {i} {p} (more {c = c} v h) = every-append (all-placed (pointsOf c) (points-pass t o i (afterClose p) c v)) (path-placed h)
 
   kept-lies : (b : Bounds) → Keeps Right Up b → Lies o b
   kept-lies b k = record {

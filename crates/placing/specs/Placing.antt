@@ -1,5 +1,5 @@
 -- docs/RULES.md, "Bounds and placement": of a path list. Of the refusals of
--- "When a label is turned away" they know 6 to 12, and bounds judge as for an offset of zero.
+-- "When a label is turned away" they know 6 to 12 and 18, and bounds judge as for an offset of zero.
 use Prim.Native.Nat.{ℕ}
 use mathlib.Core.Bool.{Bool, true, false}
 use mathlib.Core.List.{List, [], _∷_, _++_, map}
@@ -27,7 +27,7 @@ use Rattle.placing.specs.declared.Boxed.the-variants as boxed
 use Rattle.placing.specs.declared.Laid.{Laid}
 use Rattle.placing.specs.declared.Laid.the-variants as laid
 
--- ---- 6 to 12: checks 6 and 7, whose index is 0, then the records front to back
+-- ---- 6 to 12 and 18: checks 6 and 7, whose index is 0, then the records front to back
 abbrev pub unlessFaulty : Verdict → Read → Read
 unlessFaulty Fine r = r
 unlessFaulty (Faulty w) r = refused w 0

@@ -1,5 +1,5 @@
 // The public face for where a path list lies: the box of its points, and the placement of its mask.
-// Both refuse by 6 to 12 of the table in docs/RULES.md, and answer whatever they are lent.
+// Both refuse by 6 to 12 and 18 of the table in docs/RULES.md, and answer whatever they are lent.
 use command::Command;
 use fixed::Spot;
 use geometry::Bounds;
@@ -63,7 +63,7 @@ fn zero_point() -> Point
     Point { x: 0.0, y: 0.0 }
 }
 
-// Refusals 6 to 12.
+// Refusals 6 to 12 and 18.
 fn judge_inputs(list: &[u8], t: Transform, o: Point) -> Judged
     ensures { λ r. ⌜ r ≡ judgedOf (readChecked t o (now (list .entry))) ⌝ }
 {

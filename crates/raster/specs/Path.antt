@@ -30,7 +30,8 @@ strokeMarks f a s (Quad c b) = quadMarks f a c b
 strokeMarks f a s (Cubic c d b) = cubicMarks f a c d b
 strokeMarks f a s Close = lineMarks f a s
 
--- the pen point after it, and the start: behind a Close the pen goes on from the start
+-- the pen point after it, and the start. Close leaves the pen at the start, so that what closes the subpath again gives
+-- nothing
 abbrev pub pointAfter : FixedPoint → Stroke → FixedPoint
 pointAfter s (Move b) = b
 pointAfter s (Line b) = b

@@ -43,6 +43,12 @@ cancelling =
 abbrev tall : List ℕ  -- a rectangle of three rows, each of two cells
 tall = corners n1 n0 n3 n0 n3 n3 n1 n3
 
+abbrev triangle : List ℕ  -- K4's, left open
+triangle = move n0 n0 ++ line n1 n1 ++ line n0 n1
+
+abbrev shut : List ℕ  -- a lone MoveTo, closed
+shut = move n0 n0 ++ close
+
 abbrev two-corners : List ℕ  -- K11's box
 two-corners = move n0·5 n0·25 ++ line n3·25 n2
 
@@ -206,12 +212,42 @@ pub record Trials : Type 0 where
       ∷ 0 ∷ 0 ∷ 0 ∷ 0 ∷ []))
   -- ---- subpaths
   -- a triangle left open is closed by the end, and by a MoveTo
-  pub open-end : Draws (label 1 1) (move n0 n0 ++ line n1 n1 ++ line n0 n1) 1 40 (drawn 3 1 (128 ∷ []))
-  pub open-move : Draws (label 1 1) (move n0 n0 ++ line n1 n1 ++ line n0 n1 ++ move n5 n5) 1 40 (drawn 4 1 (128 ∷ []))
-  -- after Close the pen is at the start: K4 behind a line there and back
-  pub after-close :
-      Draws (label 1 1) (move n0 n0 ++ line n0 n1 ++ close ++ line n1 n1 ++ line n0 n1 ++ close) 1 40
-      (drawn 6 1 (128 ∷ []))
+  pub open-end : Draws (label 1 1) triangle 1 40 (drawn 3 1 (128 ∷ []))
+  pub open-move : Draws (label 1 1) (triangle ++ move n5 n5) 1 40 (drawn 4 1 (128 ∷ []))
+  -- what is closed stays closed: behind Close a MoveTo, another Close and the end draw no line
+  pub closed-move :
+      Draws (label 1 1) (triangle ++ close ++ move n5 n5) 1 40 (drawn 5 1 (128 ∷ []))
+  pub closed-twice : Draws (label 1 1) (triangle ++ close ++ close) 1 40 (drawn 5 1 (128 ∷ []))
+  -- and what follows the MoveTo draws: the other half of the square
+  pub closed-and-on :
+      Draws (label 1 1) (triangle ++ close ++ move n0 n0 ++ line n1 n0 ++ line n1 n1 ++ close) 1 40
+      (drawn 8 1 (255 ∷ []))
+  -- ---- no drawing after Close
+  -- LineTo, QuadTo and CurveTo directly after Close are 18, whatever comes behind them
+  pub line-18 : Draws (label 1 1) (shut ++ line n0 n0) 1 40 (turned 18 2)
+  pub quad-18 : Draws (label 1 1) (shut ++ quad n0 n0 n0 n0) 1 40 (turned 18 2)
+  pub curve-18 : Draws (label 1 1) (shut ++ curve n0 n0 n0 n0 n0 n0) 1 40 (turned 18 2)
+  pub bar-18 : Draws (label 1 1) (triangle ++ close ++ line n1 n1 ++ line n0 n1 ++ close) 1 40 (turned 18 4)
+  -- the record directly before decides, be it a second Close or one far behind; a MoveTo between lets the line pass
+  pub twice-18 : Draws (label 1 1) (shut ++ close ++ line notNumber n0) 1 40 (turned 18 3)
+  pub later-18 : Draws (label 1 1) (shut ++ move n0 n0 ++ line n1 n1 ++ close ++ line n0 n0) 1 40 (turned 18 5)
+  pub not-directly : Draws (label 1 1) (shut ++ move n0 n0 ++ line n0 n0) 1 40 (drawn 4 1 (0 ∷ []))
+  -- in the record behind a Close: a cut header, kind 6, length 11, a cut body, and only then 18; its point comes last
+  pub header-18 : Draws (label 1 1) (shut ++ 0x0A ∷ 0x00 ∷ 0x02 ∷ []) 1 40 (turned 8 2)
+  pub kind-18 : Draws (label 1 1) (shut ++ 0x0A ∷ 0x00 ∷ 0x06 ∷ 0x00 ∷ [] ++ nulls 8) 1 40 (turned 9 2)
+  pub length-18 : Draws (label 1 1) (shut ++ 0x0B ∷ 0x00 ∷ 0x02 ∷ 0x00 ∷ [] ++ nulls 9) 1 40 (turned 10 2)
+  pub body-18 : Draws (label 1 1) (shut ++ take 11 (line n0 n0)) 1 40 (turned 8 2)
+  pub first-18-12 : Draws (label 1 1) (shut ++ line infinite n0) 1 40 (turned 18 2)
+  -- Close first is 11, also before a LineTo
+  pub first-11-18 : Draws (label 1 1) (close ++ line n0 n0) 1 40 (turned 11 0)
+  -- of two faulty records the first decides; 7 comes before 18, and 13 behind it
+  pub earlier-12-18 : Draws (label 1 1) (move n4096·004 n0 ++ close ++ line n0 n0) 1 40 (turned 12 0)
+  pub earlier-18 : Draws (label 1 1) (shut ++ line n0 n0 ++ 0x02 ∷ 0x00 ∷ 0x06 ∷ 0x00 ∷ []) 1 40 (turned 18 2)
+  pub first-7-18 : Draws (label 1 1) (shut ++ line n0 n0 ++ closes 16378) 1 40 (turned 7 0)
+  pub first-18-13 : Draws (label 1 1) (shut ++ line n0 n0) 1 1 (turned 18 2)
+  -- in a band that no stroke meets, and in bands
+  pub band-18 : Draws (banded NonZero false 1 4 1 3 4) (shut ++ line n1 n1) 1 40 (turned 18 2)
+  pub bands-18 : InBands 1 (label 1 3) (shut ++ line n1 n1) 3 40 (turned 18 2)
   -- ---- lines and curves
   -- a long flat edge, (−2048,0) (2048,1) (−2048,1), and one twice as long: the crossings are coarse
   pub coarse :
@@ -396,11 +432,13 @@ pub record Trials : Type 0 where
   pub box-ends : bounds identity (move n0 n0 ++ quad n0 n0 n5 −3 ++ curve n0 n0 n0 n0 −2 n7) ≡ box −2 −3 n5 n7
   pub box-moved : bounds (affine n2 n0 n0 n1 n1 n0·5) (move n0 n0 ++ line n1 n2) ≡ box n1 n0·5 n3 n2·5
   pub box-empty : bounds identity [] ≡ box n0 n0 n0 n0
-  -- 6 to 12; the point rule is asked for the offset zero
+  -- 6 to 12 and 18; the point rule is asked for the offset zero
   pub box-6 : bounds (affine infinite n0 n0 n1 n0 n0) (nulls 65537) ≡ boxRefused 6 0
   pub box-7 : bounds identity (nulls 65537) ≡ boxRefused 7 0
   pub box-8 : bounds identity (move n0 n0 ++ 0x02 ∷ []) ≡ boxRefused 8 1
   pub box-12 : bounds identity (move n0 n0 ++ line n4096·004 n0) ≡ boxRefused 12 1
+  pub box-18 : bounds identity (shut ++ close ++ curve notNumber n0 n0 n0 n0 n0) ≡ boxRefused 18 3
+  pub box-closed : bounds identity (shut ++ close ++ move n1 n2) ≡ box n0 n0 n1 n2
   -- 4096 passes in every point, 4096.00390625 in no control point, on either axis and of either sign
   pub box-near :
       bounds identity (move n4096 −4096 ++ quad −4096 n4096 n0 n0 ++ curve −4096 −4096 n4096 n4096 n0 n0)
@@ -443,10 +481,12 @@ pub record Trials : Type 0 where
       × (placement TopLeft identity (at n0 n0) (move n0 n0 ++ quad n0 n4096·004 n0 n0) ≡ placeRefused 12 1)
       × (placement TopLeft identity (at n0 n0) (move n0 n0 ++ curve n0 −4096·004 n0 n0 n0 n0) ≡ placeRefused 12 1)
       × (placement TopLeft identity (at n0 n0) (move n0 n0 ++ curve n0 n0 n4096·004 n0 n0 n0) ≡ placeRefused 12 1)
-  -- 6 to 12
+  -- 6 to 12 and 18
   pub place-6 : placement TopLeft identity (at n0 infinite) (nulls 65537) ≡ placeRefused 6 0
   pub place-7 : placement TopLeft identity (at n0 n0) (nulls 65537) ≡ placeRefused 7 0
   pub place-9 : placement TopLeft identity (at n0 n0) (move n0 n0 ++ 0x02 ∷ 0x00 ∷ 0x06 ∷ 0x00 ∷ []) ≡ placeRefused 9 1
+  pub place-18 : placement TopLeft identity (at n0 n0) (shut ++ quad n0 n0 n0 notNumber) ≡ placeRefused 18 2
+  pub place-closed : placement TopLeft identity (at n0 n0) (shut ++ close ++ move n1 n2) ≡ lies −0 −0 (pos 0) (pos 0) 1 2
   -- a point is judged with the offset added
   pub place-12 : placement TopLeft identity (at n1 n0) (move n4096 n0) ≡ placeRefused 12 0
   pub place-near : placement TopLeft identity (at −1 n0) (move n4096·004 n0) ≡ lies −4095 −0 (pos 4095) (pos 0) 1 0
@@ -544,7 +584,28 @@ trials = record {
   quarter = refl;
   open-end = refl;
   open-move = refl;
-  after-close = refl;
+  closed-move = refl;
+  closed-twice = refl;
+  closed-and-on = refl;
+  line-18 = refl;
+  quad-18 = refl;
+  curve-18 = refl;
+  bar-18 = refl;
+  twice-18 = refl;
+  later-18 = refl;
+  not-directly = refl;
+  header-18 = refl;
+  kind-18 = refl;
+  length-18 = refl;
+  body-18 = refl;
+  first-18-12 = refl;
+  first-11-18 = refl;
+  earlier-12-18 = refl;
+  earlier-18 = refl;
+  first-7-18 = refl;
+  first-18-13 = refl;
+  band-18 = refl;
+  bands-18 = refl;
   coarse = refl;
   coarser = refl;
   a-quad = refl;
@@ -600,6 +661,8 @@ trials = record {
   box-7 = refl;
   box-8 = refl;
   box-12 = refl;
+  box-18 = refl;
+  box-closed = refl;
   box-near = refl;
   box-control-12 = (refl, refl, refl, refl);
   box-zero = refl;
@@ -621,6 +684,8 @@ trials = record {
   place-6 = refl;
   place-7 = refl;
   place-9 = refl;
+  place-18 = refl;
+  place-closed = refl;
   place-12 = refl;
   place-near = refl;
 }

@@ -2,11 +2,13 @@
 use Prim.Native.Nat.{ℕ}
 use mathlib.Core.Path.{_≡_, refl}
 use mathlib.Core.Bool.{true, false}
-use mathlib.Core.List.{List, [], _∷_, _++_}
+use mathlib.Core.List.{List, [], _∷_, _++_, map}
+use mathlib.Core.Option as option
 use lib.ListN.{length}
 use lib.IntN.{ℤ, pos, negℤ}
 use lib.Ieee.{ofBits, add, mul, neg}
 use Rattle.geometry.specs.Bits.{float, at}
+use Rattle.command.specs.declared.Command.{Command}
 use Rattle.command.specs.declared.Command.the-variants.{MoveTo, LineTo, QuadTo, CurveTo, Close}
 use Rattle.sweep.specs.declared.Fill.the-variants.{NonZero, EvenOdd}
 use Rattle.label.specs.declared.Label.{Label}
@@ -15,7 +17,7 @@ use Rattle.paper.specs.Steps.{mostDoublings, mostSplits}
 use Rattle.paper.specs.PathList.{four, lengthOf, commandIn}
 use Rattle.paper.specs.Floats.{Spot, moved, shifted, combine, thenTranslate, translation, scale, identity}
 use Rattle.paper.specs.Floats.{fixedOf, near, passes, cell, fraction}
-use Rattle.paper.specs.TurnedAway.{inputFault}
+use Rattle.paper.specs.TurnedAway.{inputFault, afterClose, draws}
 use Rattle.paper.specs.Lines as lines
 use Rattle.paper.specs.Lines.{enter, give}
 use Rattle.paper.specs.Curves as curves
@@ -65,6 +67,11 @@ three-four = 0x00 ∷ 0x00 ∷ 0x40 ∷ 0x40 ∷ 0x00 ∷ 0x00 ∷ 0x80 ∷ 0x40
 abbrev five-six : List ℕ
 five-six = 0x00 ∷ 0x00 ∷ 0xA0 ∷ 0x40 ∷ 0x00 ∷ 0x00 ∷ 0xC0 ∷ 0x40 ∷ []
 
+abbrev each : List Command  -- one of each kind
+each =
+    MoveTo (at n1 n2) ∷ LineTo (at n1 n2) ∷ QuadTo (at n1 n2) (at n3 n4) ∷ CurveTo (at n1 n2) (at n3 n4) (at n5 n6)
+    ∷ Close ∷ []
+
 abbrev some : List Pair  -- of two rows, in no order
 some =
     pairAt (below 1) (pos 0) (pos 9) (pos 3) ∷ pairAt (pos 0) (pos 0) (pos 4) (pos 1000)
@@ -98,6 +105,10 @@ pub record Values : Type 0 where
   pub list-size :
       (inputFault identity (at n0 n0) 0 ≡ 0) × (inputFault identity (at n0 n0) 65536 ≡ 0)
       × (inputFault identity (at n0 n0) 65537 ≡ 7)
+  -- LineTo, QuadTo and CurveTo draw; directly after Close is what has Close before it, and not the first record
+  pub drawing : map draws each ≡ false ∷ true ∷ true ∷ true ∷ false ∷ []
+  pub directly : map (λ (c : Command). afterClose (option.some c)) each ≡ false ∷ false ∷ false ∷ false ∷ true ∷ []
+  pub not-the-first : afterClose option.none ≡ false
   -- ---- points and transforms
   -- (17,19) under 2, 3, 5, 7, 11, 13
   pub a-point : moved (affine n2 n3 n5 n7 n11 n13) (at n17 n19) ≡ at n140 n197
@@ -433,6 +444,9 @@ values = record {
   a-close = refl;
   four-bytes = refl;
   list-size = (refl, refl, refl);
+  drawing = refl;
+  directly = refl;
+  not-the-first = refl;
   a-point = refl;
   summed-from-left = refl;
   rounded-once = refl;

@@ -13,12 +13,13 @@ use Rattle.path.proofs.judge.Lts as lts
 use Rattle.list.proofs.step_at.Reads as step-at-reads
 use Rattle.path.proofs.refusal_of.Reads as refusal-of-reads
 use Rattle.path.proofs.verdict_of.Reads as verdict-of-reads
+use Rattle.command.proofs.Command.is_close.Reads as is-close-reads
 
 abbrev Inv-loop : tie.InvT-loop
-Inv-loop list t o at₀ n₀ at n = Going t o list at n × (length list ≤ 65536)
+Inv-loop list t o at₀ n₀ closed₀ at n closed = Going t o list at n closed × (length list ≤ 65536)
 
 abbrev μ-loop : tie.MeasureT-loop
-μ-loop list t o at₀ n₀ at n = length list - at
+μ-loop list t o at₀ n₀ closed₀ at n closed = length list - at
 
 loop-holds : tie.Need-loop-holds Inv-loop μ-loop
 loop-holds c = (started _ _ _, c .before .pre)
@@ -60,18 +61,21 @@ add-n c =
     let l = c .before .before .before .before .before .before .before .loop in
     omega (arith, l .inv .0 .few, l .inv .0 .inside, l .inv .1)
 
+is-close-requires : tie.Need-is-close-requires Inv-loop μ-loop
+is-close-requires c κs = search needs
+
 loop-less : tie.Need-loop-less Inv-loop μ-loop
 loop-less c =
-    let k = c .before .before .before .before in
+    let k = c .before .before .before .before .before in
     let l = k .before .before .before .loop in
     further _ (l .at) _ _ (sym (k .before .before .step-at .ensures) ∙ k .k .given .1)
 
 loop-again : tie.Need-loop-again Inv-loop μ-loop
 loop-again c =
-    let v = c .before .before in
+    let v = c .before .before .before in
     let k = v .before .before in
     let l = k .before .before .before .loop in
-    (goes-on _ _ _ (l .at) (l .n) (l .inv .0) _ _ (sym (k .before .before .step-at .ensures) ∙ k .k .given .1) (sym (v .verdict-of .ensures) ∙ c .enum-told2 .given .1), l .inv .1)
+    (goes-on _ _ _ (l .at) (l .n) (l .inv .0) _ _ (sym (k .before .before .step-at .ensures) ∙ k .k .given .1) (c .is-close .ensures) (sym (v .verdict-of .ensures) ∙ c .before .enum-told2 .given .1), l .inv .1)
 
 enum-known-why-2 : tie.Need-enum-known-why-2 Inv-loop μ-loop
 enum-known-why-2 c = search needs
@@ -100,6 +104,7 @@ judge-spec =
     verdict-of-requires
     enum-told-2
     add-n
+    is-close-requires
     loop-less
     loop-again
     enum-known-why-2
