@@ -39,7 +39,8 @@
  *
  * MoveTo (1,1) is 0A 00 01 00 00 00 80 3F 00 00 80 3F; Close is 02 00 05 00. The first record is a
  * MoveTo. A list of no bytes is accepted and draws nothing. A subpath that is still open is closed
- * by the next MoveTo, or by the end. Behind a Close the pen goes on from where the subpath started.
+ * by the next MoveTo, or by the end. Directly behind a Close stands a MoveTo, another Close, or the
+ * end: what is drawn after it begins with a MoveTo.
  *
  * A point (x, y) becomes x' = (x*xx + y*yx) + tx, y' = (x*xy + y*yy) + ty, every product and every
  * sum rounded to a float, and is moved by the offset. Both parts must then be finite and, times 256
@@ -50,10 +51,10 @@
  * Refusals
  * --------
  * Every call that takes a list answers with a number, 0 or a refusal's, and an index: for 8 to 12
- * that of the record at fault, counted from 0, and else 0. 1 to 7 are asked first, in this order.
- * Then each record is judged, from the first on, up to one that is refused: a cut header (8), 9,
- * 10, a cut body (8), 11, 12. A list must be judged to its end before it is drawn, so 13 comes
- * last. rows stands for end - first.
+ * and 18 that of the record at fault, counted from 0, and else 0. 1 to 7 are asked first, in this
+ * order. Then each record is judged, from the first on, up to one that is refused: a cut header
+ * (8), 9, 10, a cut body (8), 11, 18, 12. A list must be judged to its end before it is drawn, so
+ * 13 comes last. 14 to 17 are not given. rows stands for end - first.
  *
  *     no.  exactly when
  *       1  width or height is above MZ_MOST_SIDE
@@ -69,6 +70,7 @@
  *      11  the list begins with another record than a MoveTo
  *      12  the point rule refuses a point
  *      13  the distinct places (column, row) that are stored outnumber the pool's
+ *      18  a LineTo, QuadTo or CurveTo stands directly behind a Close
  *
  *
  * What is asked of the caller
@@ -115,9 +117,9 @@ extern "C" {
 
 /* The version of this face. */
 #define MZ_VERSION_MAJOR 0
-#define MZ_VERSION_MINOR 3
+#define MZ_VERSION_MINOR 4
 #define MZ_VERSION_PATCH 0
-#define MZ_VERSION "0.3.0"
+#define MZ_VERSION "0.4.0"
 
 /* The largest width and height, in pixels. */
 #define MZ_MOST_SIDE 4096
@@ -171,7 +173,8 @@ enum {
     MZ_LENGTH = 10,
     MZ_START = 11,
     MZ_POINT = 12,
-    MZ_ROOM = 13
+    MZ_ROOM = 13,
+    MZ_AFTER_CLOSE = 18
 };
 
 /* A number in words, to be shown to people. */
@@ -192,6 +195,7 @@ static inline const char *mz_words(uint32_t number) {
     case MZ_POINT:
         return "a point is NaN, infinite, or 1/256 of a pixel or more beyond 4,096 from zero";
     case MZ_ROOM: return "the drawing needs more places than the workspace has room for";
+    case MZ_AFTER_CLOSE: return "the record draws directly after a Close, with no MoveTo between";
     default: return "an unknown refusal";
     }
 }
@@ -201,7 +205,7 @@ static inline const char *mz_words(uint32_t number) {
  * an empty list's placement is refused for its offset.)
  */
 static inline bool mz_names_a_record(uint32_t number) {
-    return number >= MZ_CUT && number <= MZ_POINT;
+    return (number >= MZ_CUT && number <= MZ_POINT) || number == MZ_AFTER_CLOSE;
 }
 
 /*
@@ -293,13 +297,14 @@ typedef struct MzPlacement {
  *                   MZ_MOST_CELLS. MZ_WORKSPACE_WORDS counts them. A drawing never stores more than
  *                   (width + 1) * rows places; the smaller the workspace, the sooner it is wiped
  *
- * Refuses with 1 to 13. What was in mask and words before changes no answer and no painted byte.
+ * Refuses with 1 to 13 and 18. What was in mask and words before changes no answer and no painted
+ * byte.
  *
- * Afterwards   mask                                              words
- *   0          in each band row width bytes are written, 0       all are 0
- *              for no ink to 255 for full; no others change
- *   1 to 12    unchanged                                         unchanged
- *   13         unchanged                                         all are 0
+ * Afterwards      mask                                              words
+ *   0             in each band row width bytes are written, 0       all are 0
+ *                 for no ink to 255 for full; no others change
+ *   1 to 12, 18   unchanged                                         unchanged
+ *   13            unchanged                                         all are 0
  *
  * A label that is refused with 13 may still be drawn in bands: each has the whole pool to itself,
  * and together they give the whole label's bytes. mz_draw_in_bands draws so.
@@ -318,10 +323,10 @@ MzDrawn mz_draw(const uint8_t *list, size_t list_len, MzLabel label, uint8_t *ma
  *                   rows) / 4 places rounded down, at most MZ_MOST_CELLS. MZ_BANDS_WORDS counts
  *                   what is needed
  *
- * Refuses with 1 to 12 as mz_draw does, and with 13 exactly when one of the bands stores more
- * distinct places than its pool holds; then the mask is unchanged, whichever band it is. What each
- * number leaves in mask and words is as for mz_draw. Accepted, mask, records and cells are those of
- * the rows drawn at once; so whatever mz_draw accepts gives the same here, with any step.
+ * Refuses with 1 to 12 and 18 as mz_draw does, and with 13 exactly when one of the bands stores
+ * more distinct places than its pool holds; then the mask is unchanged, whichever band it is. What
+ * each number leaves in mask and words is as for mz_draw. Accepted, mask, records and cells are
+ * those of the rows drawn at once; so whatever mz_draw accepts gives the same here, with any step.
  */
 MzDrawn mz_draw_in_bands(const uint8_t *list, size_t list_len, MzLabel label, size_t step,
                          uint8_t *mask, size_t mask_len, uint32_t *words, size_t words_len);
@@ -330,7 +335,7 @@ MzDrawn mz_draw_in_bands(const uint8_t *list, size_t list_len, MzLabel label, si
  * The box of all transformed points, control points included. Of parts that are equal, as 0 and
  * -0 are, the first stays. For an empty list all four parts are 0.
  *
- * Refuses with 6 to 12, the point rule judging the points without any offset.
+ * Refuses with 6 to 12 and 18, the point rule judging the points without any offset.
  */
 MzBounds mz_bounds(const uint8_t *list, size_t list_len, MzTransform transform);
 
@@ -341,9 +346,9 @@ MzBounds mz_bounds(const uint8_t *list, size_t list_len, MzTransform transform);
  * maximum up. width and height are the sides of this box; left and top are its minimum, and if
  * bottom_left is true the height is added to top; the new offset is the minimum, negated.
  *
- * Refuses with 6 to 12, the point rule judging the points with the offset added. An empty list has
- * the box of mz_bounds, and 12 with index 0 says that the offset itself fails the point rule.
- * A placement can be larger than a drawing may be, up to 8194 x 8194: mz_draw then says 1.
+ * Refuses with 6 to 12 and 18, the point rule judging the points with the offset added. An empty
+ * list has the box of mz_bounds, and 12 with index 0 says that the offset itself fails the point
+ * rule. A placement can be larger than a drawing may be, up to 8194 x 8194: mz_draw then says 1.
  *
  * To draw what was placed, begin with mz_label(width, height) of these and give it the offset
  * (offset_x, offset_y); where the list was placed with an offset (x, y) of its own, (x + offset_x,

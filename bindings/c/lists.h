@@ -3,6 +3,7 @@
 #ifndef LISTS_H
 #define LISTS_H
 
+#include <math.h>
 #include <stddef.h>
 #include <stdint.h>
 #include <string.h>
@@ -71,16 +72,35 @@ static List rectangle_of(float left, float top, float right, float bottom) {
 /* K1's rectangle. */
 static List rectangle(void) { return rectangle_of(1, 1, 3, 2); }
 
-/* How many floats a record of each kind has, up to CurveTo; there is no kind 0. */
-static const unsigned floats_of[] = {0, 2, 2, 4, 6};
+/* How many floats a record of each kind has; there is no kind 0. */
+static const unsigned floats_of[] = {0, 2, 2, 4, 6, 0};
 
-/* MoveTo (0, 0) and a record of this kind, of whose floats one is `far` and the others are 0. */
+/* A record of this kind, of whose floats one is `far` and the others are 0. */
+static void put_record(List *list, unsigned kind, unsigned far_one, float far) {
+    put_u16(list, 2 + 4 * floats_of[kind]);
+    put_u16(list, kind);
+    for (unsigned at = 0; at < floats_of[kind]; at += 1) {
+        put_float(list, at == far_one ? far : 0);
+    }
+}
+
+/* MoveTo (0, 0) and such a record. */
 static List one_far_float(unsigned kind, unsigned far_one, float far) {
     List list = one_move(0, 0);
-    put_u16(&list, 2 + 4 * floats_of[kind]);
-    put_u16(&list, kind);
-    for (unsigned at = 0; at < floats_of[kind]; at += 1) {
-        put_float(&list, at == far_one ? far : 0);
+    put_record(&list, kind, far_one, far);
+    return list;
+}
+
+/*
+ * A record for each letter, which are SVG's: M, L, Q, C, and Z for Close. A small one has a NaN in
+ * its first point.
+ */
+static List list_of(const char *letters) {
+    static const char kinds[] = "MLQCZmlqc";
+    List list = empty_list();
+    for (; *letters != '\0'; letters += 1) {
+        unsigned at = (unsigned)(strchr(kinds, *letters) - kinds);
+        put_record(&list, 1 + at % 5, 0, at < 5 ? 0 : NAN);
     }
     return list;
 }

@@ -1,8 +1,8 @@
 /*
  * The C face, called as a C or a C++ program calls it: a worked label that zeno drew, at once and
- * in bands; worked transforms; K1, K8, K11, K12 and every refusal of the rules (docs/RULES.md);
- * what the header says besides its functions. Takes the folder ../worked as its argument. Prints
- * what differs; exits non-zero if anything does. `run` builds it both ways.
+ * in bands; worked transforms; K1, K8, K11, K12 and every refusal of the rules (docs/RULES.md), 18
+ * with every short list; what the header says besides its functions. Takes the folder ../worked as
+ * its argument. Prints what differs; exits non-zero if anything does. `run` builds it both ways.
  */
 
 #include "lists.h"
@@ -289,6 +289,7 @@ static void label_of_zeros_draws_nothing(void) {
 }
 
 static void refusals_have_words(void) {
+    static const char unknown[] = "an unknown refusal";
     static const char *const words[] = {
         "accepted",
         "the width or the height is above 4,096 pixels",
@@ -304,13 +305,21 @@ static void refusals_have_words(void) {
         "the first record is not a MoveTo",
         "a point is NaN, infinite, or 1/256 of a pixel or more beyond 4,096 from zero",
         "the drawing needs more places than the workspace has room for",
-        "an unknown refusal",
+        unknown,
+        unknown,
+        unknown,
+        unknown,
+        "the record draws directly after a Close, with no MoveTo between",
+        unknown,
+        unknown,
     };
     for (uint32_t number = 0; number < LENGTH(words); number += 1) {
+        bool names = (number > 7 && number < 13) || number == 18;
         check(strcmp(mz_words(number), words[number]) == 0, words[number]);
-        check(mz_names_a_record(number) == (number > 7 && number < 13), "mz_names_a_record");
+        check(mz_names_a_record(number) == names, "mz_names_a_record");
     }
-    check(strcmp(mz_words(UINT32_MAX), words[14]) == 0, words[14]);
+    check(strcmp(mz_words(UINT32_MAX), unknown) == 0, unknown);
+    check(!mz_names_a_record(UINT32_MAX), "mz_names_a_record");
 }
 
 static void words_are_counted(void) {
@@ -505,9 +514,8 @@ static void length_0_takes_any_pointer(void) {
 
 /* ---- every refusal, and what is just within */
 
-/* 1 to 6. */
-static void sizes_and_floats_are_refused(void) {
-    List list = rectangle();
+/* 1 to 6, whatever is at fault in the list. */
+static void sizes_and_floats_are_refused(List list) {
     const Call good = call_of(&list, 4, 3);
     Call call = good;
     call.label.width = MZ_MOST_SIDE + 1;
@@ -633,18 +641,31 @@ static void the_fullest_rows_fit_by_three(void) {
     check(answers(drawn, 132, 4 * (MZ_MOST_SIDE + 1)), "the fullest rows by three");
 }
 
-/* One record behind K1's five, or alone. */
-static void expect_record_refused(const List *list, uint32_t number, uint32_t index) {
-    expect_refusal(call_of(list, 4, 3), number, index);
-    MzBounds bounds = mz_bounds(list->bytes, list->len, mz_identity());
-    check(bounds.number == number && bounds.index == index, "bounds: number and index");
-    check(bounds.min_x == 0 && bounds.max_y == 0, "bounds: a refused box is 0");
-    MzPlacement placed = mz_placement(list->bytes, list->len, mz_identity(), 0, 0, false);
-    check(placed.number == number && placed.index == index, "placement: number and index");
-    check(placed.width == 0 && placed.height == 0, "placement: a refused one is 0");
+/* By bounds and placement: number and index, and all else 0, no zero having a sign. */
+static void expect_no_box(const uint8_t *bytes, size_t len, uint32_t number, uint32_t index) {
+    MzBounds no_box;
+    memset(&no_box, 0, sizeof no_box);
+    no_box.number = number;
+    no_box.index = index;
+    MzBounds bounds = mz_bounds(bytes, len, mz_identity());
+    check(memcmp(&bounds, &no_box, sizeof bounds) == 0, "bounds: refused");
+    MzPlacement no_place;
+    memset(&no_place, 0, sizeof no_place);
+    no_place.number = number;
+    no_place.index = index;
+    MzPlacement placed = mz_placement(bytes, len, mz_identity(), 0, 0, false);
+    check(memcmp(&placed, &no_place, sizeof placed) == 0, "placement: refused");
+    placed = mz_placement(bytes, len, mz_identity(), 0, 0, true);
+    check(memcmp(&placed, &no_place, sizeof placed) == 0, "placement from the bottom: refused");
 }
 
-/* 8 to 12. */
+/* By every call that takes a list. */
+static void expect_record_refused(const List *list, uint32_t number, uint32_t index) {
+    expect_refusal(call_of(list, 4, 3), number, index);
+    expect_no_box(list->bytes, list->len, number, index);
+}
+
+/* 8 to 12, behind K1's five records or alone. */
 static void records_are_refused(void) {
     List list = rectangle();
     list.bytes[list.len++] = 2;
@@ -661,17 +682,22 @@ static void records_are_refused(void) {
     close_path(&list);
     expect_record_refused(&list, MZ_START, 0);
     list = rectangle();
-    line_to(&list, 4096.00390625f, 0);
+    move_to(&list, 4096.00390625f, 0);
     expect_record_refused(&list, MZ_POINT, 5);
     list = rectangle();
+    move_to(&list, 0, 0);
     line_to(&list, NAN, 0);
-    expect_record_refused(&list, MZ_POINT, 5);
+    expect_record_refused(&list, MZ_POINT, 6);
 }
 
-static void expect_list_accepted(const List *list) {
+static void expect_list_accepted(const List *list, uint32_t records) {
     Call call = call_of(list, 4, 3);
+    Call in_bands = call;
     MzDrawn drawn = draw(&call);
-    check(drawn.number == MZ_ACCEPTED && drawn.records == 2, "drawing: accepted");
+    check(answers(drawn, records, drawn.cells), "drawing: accepted");
+    MzDrawn by_rows = draw_in_bands(&in_bands, 1);
+    check(answers(by_rows, records, drawn.cells), "drawing in bands: accepted");
+    check(memcmp(in_bands.mask, call.mask, sizeof call.mask) == 0, "drawing in bands: mask");
     MzBounds bounds = mz_bounds(list->bytes, list->len, mz_identity());
     check(bounds.number == MZ_ACCEPTED, "bounds: accepted");
     MzPlacement placed = mz_placement(list->bytes, list->len, mz_identity(), 0, 0, false);
@@ -684,7 +710,7 @@ static void expect_far_floats(float far, bool accepted) {
         for (unsigned at = 0; at < floats_of[kind]; at += 1) {
             List list = one_far_float(kind, at, far);
             if (accepted) {
-                expect_list_accepted(&list);
+                expect_list_accepted(&list, 2);
             } else {
                 expect_record_refused(&list, MZ_POINT, 1);
             }
@@ -713,6 +739,180 @@ static void points_are_judged_with_the_offset(void) {
     check(bounds.number == MZ_ACCEPTED, "bounds: no offset is added");
 }
 
+/* ---- 18: nothing is drawn directly behind a Close */
+
+/* What the rules say of a list_of these letters; *at is its record, or how many there are. */
+static uint32_t ruled(const char *letters, uint32_t *at) {
+    for (*at = 0; letters[*at] != '\0'; *at += 1) {
+        char letter = letters[*at];
+        if (*at == 0 && strchr("Mm", letter) == NULL) {
+            return MZ_START;
+        }
+        if (*at > 0 && letters[*at - 1] == 'Z' && strchr("LQClqc", letter) != NULL) {
+            return MZ_AFTER_CLOSE;
+        }
+        if (strchr("mlqc", letter) != NULL) {
+            return MZ_POINT;
+        }
+    }
+    return MZ_ACCEPTED;
+}
+
+static void expect_as_ruled(const char *letters) {
+    int failures_before = failures;
+    uint32_t at;
+    uint32_t number = ruled(letters, &at);
+    List list = list_of(letters);
+    if (number == MZ_ACCEPTED) {
+        expect_list_accepted(&list, at);
+    } else {
+        expect_record_refused(&list, number, at);
+    }
+    if (failures != failures_before) {
+        printf("  in the list %s\n", letters);
+    }
+}
+
+/* Each list of up to `most` of these letters. */
+static void every_list_is_judged(const char *letters, size_t most) {
+    size_t kinds = strlen(letters);
+    size_t lists = 1;
+    for (size_t len = 1; len <= most; len += 1) {
+        lists *= kinds;
+        for (size_t list = 0; list < lists; list += 1) {
+            char word[8] = {0};
+            for (size_t at = 0, rest = list; at < len; at += 1, rest /= kinds) {
+                word[at] = letters[rest % kinds];
+            }
+            expect_as_ruled(word);
+        }
+    }
+}
+
+/* Worked by hand. The record directly before decides; 11 comes before 18, and 12 behind it. */
+static void worked_lists_are_judged(void) {
+    static const struct {
+        const char *letters;
+        uint32_t number;
+        uint32_t at;
+    } worked[] = {
+        {"MZL", 18, 2},    {"MZQ", 18, 2},   {"MZC", 18, 2},  {"MLZZL", 18, 4},
+        {"MZMLZL", 18, 5}, {"MZZ", 0, 3},    {"MZM", 0, 3},   {"MLZML", 0, 5},
+        {"MZMLL", 0, 5},   {"MZZMCZ", 0, 6}, {"Z", 11, 0},    {"ZL", 11, 0},
+        {"MZZl", 18, 3},   {"MZm", 12, 2},   {"mZL", 12, 0},  {"MlZL", 12, 1},
+        {"MZLl", 18, 2},   {"MZLZC", 18, 2},
+    };
+    for (size_t each = 0; each < LENGTH(worked); each += 1) {
+        uint32_t at;
+        uint32_t number = ruled(worked[each].letters, &at);
+        check(number == worked[each].number && at == worked[each].at, worked[each].letters);
+        expect_as_ruled(worked[each].letters);
+    }
+}
+
+/* A record behind a Close: cut anywhere, of a wrong kind or length, whole, with a byte behind. */
+static void faults_of_a_record_come_in_order(void) {
+    for (unsigned kind = 2; kind <= 4; kind += 1) {
+        List list = list_of("MZ");
+        size_t start = list.len;
+        put_record(&list, kind, 1, NAN);
+        for (size_t len = start + 1; len < list.len; len += 1) {
+            List cut = list;
+            cut.len = len;
+            expect_record_refused(&cut, MZ_CUT, 2);
+        }
+        List wrong = list;
+        wrong.bytes[start + 2] = 6;
+        expect_record_refused(&wrong, MZ_KIND, 2);
+        wrong.bytes[start + 2] = (uint8_t)kind;
+        wrong.bytes[start] += 1;
+        expect_record_refused(&wrong, MZ_LENGTH, 2);
+        wrong.len = start + 4;
+        expect_record_refused(&wrong, MZ_LENGTH, 2);
+        expect_record_refused(&list, MZ_AFTER_CLOSE, 2);
+        list.len += 1;
+        expect_record_refused(&list, MZ_AFTER_CLOSE, 2);
+    }
+}
+
+/* 6 comes before 18; a point that is too far by the offset alone comes behind it. */
+static void offsets_are_judged_in_order(void) {
+    List list = list_of("MZ");
+    line_to(&list, 4096, 0);
+    MzLabel label = mz_label(4, 3);
+    label.offset_x = 1.0f / 256;
+    expect_refusal(call_for(&list, label), MZ_AFTER_CLOSE, 2);
+    MzPlacement placed = mz_placement(list.bytes, list.len, mz_identity(), 1.0f / 256, 0, false);
+    check(placed.number == MZ_AFTER_CLOSE && placed.index == 2, "placement: 18 before 12");
+    placed = mz_placement(list.bytes, list.len, mz_identity(), NAN, 0, false);
+    check(placed.number == MZ_FLOAT && placed.index == 0, "placement: 6 before 18");
+    MzBounds bounds = mz_bounds(list.bytes, list.len, mz_scale(INFINITY, 1));
+    check(bounds.number == MZ_FLOAT && bounds.index == 0, "bounds: 6 before 18");
+}
+
+/* Whichever rows are drawn, or none, upward too. With no room for a place 18 comes before 13. */
+static void bands_are_refused_with_18(void) {
+    List list = rectangle();
+    line_to(&list, 2, 2);
+    MzLabel label = mz_label(4, 3);
+    for (label.first = 0; label.first <= 3; label.first += 1) {
+        for (label.end = label.first; label.end <= 3; label.end += 1) {
+            label.up = !label.up;
+            Call call = call_for(&list, label);
+            expect_refusal(call, MZ_AFTER_CLOSE, 5);
+            call.words_len = label.end - label.first;
+            expect_refusal(call, MZ_AFTER_CLOSE, 5);
+        }
+    }
+}
+
+/* A LineTo ends the longest list, behind as many Closes as there is room for; a byte more is 7. */
+static void the_longest_list_ends_behind_a_close(void) {
+    static uint8_t bytes[MZ_MOST_LIST + 1];
+    List list = list_of("MZL");
+    memcpy(bytes, list.bytes, 12);
+    for (size_t at = 12; at < MZ_MOST_LIST - 12; at += 4) {
+        memcpy(bytes + at, list.bytes + 12, 4);
+    }
+    memcpy(bytes + MZ_MOST_LIST - 12, list.bytes + 16, 12);
+    Call call = call_of(&list, 4, 3);
+    call.list = bytes;
+    call.list_len = MZ_MOST_LIST;
+    expect_refusal(call, MZ_AFTER_CLOSE, 16379);
+    expect_no_box(bytes, MZ_MOST_LIST, MZ_AFTER_CLOSE, 16379);
+    call.list_len += 1;
+    expect_refusal(call, MZ_LIST, 0);
+    expect_no_box(bytes, MZ_MOST_LIST + 1, MZ_LIST, 0);
+}
+
+/* K1 closed twice, which changes nothing, and another rectangle. */
+static void figures_behind_a_close_are_drawn(void) {
+    static const uint8_t bytes[12] = {255, 0, 0, 0, 0, 255, 255, 0, 0, 0, 0, 0};
+    List list = rectangle();
+    close_path(&list);
+    put_rectangle(&list, 0, 0, 1, 1);
+    Call call = call_of(&list, 4, 3);
+    Call in_bands = call;
+    MzDrawn drawn = draw(&call);
+    check(answers(drawn, 11, 4), "behind a Close: answer");
+    check(masked(&call, bytes, LENGTH(bytes)) && wiped(&call), "behind a Close: mask and words");
+    drawn = draw_in_bands(&in_bands, 2);
+    check(answers(drawn, 11, 4), "behind a Close, in bands: answer");
+    check(masked(&in_bands, bytes, LENGTH(bytes)), "behind a Close, in bands: mask");
+}
+
+static void nothing_is_drawn_after_close(void) {
+    every_list_is_judged("MLQCZmlqc", 4);
+    every_list_is_judged("MLZ", 6);
+    worked_lists_are_judged();
+    faults_of_a_record_come_in_order();
+    offsets_are_judged_in_order();
+    sizes_and_floats_are_refused(list_of("MZL"));
+    bands_are_refused_with_18();
+    the_longest_list_ends_behind_a_close();
+    figures_behind_a_close_are_drawn();
+}
+
 static void rules_examples(void) {
     k1_rectangle();
     k1_band_upward();
@@ -725,7 +925,7 @@ static void rules_examples(void) {
 }
 
 static void refusals(void) {
-    sizes_and_floats_are_refused();
+    sizes_and_floats_are_refused(rectangle());
     the_longest_list_is_read();
     the_largest_sizes_are_accepted();
     the_largest_label_is_drawn();
@@ -754,6 +954,7 @@ int main(int argc, char **argv) {
     version_is_one();
     rules_examples();
     refusals();
+    nothing_is_drawn_after_close();
     printf("C face: %d checks, %d differ\n", checks, failures);
     return failures == 0 ? 0 : 1;
 }

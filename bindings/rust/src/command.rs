@@ -21,7 +21,7 @@ pub enum Command {
 }
 
 /// The kinds of record.
-#[derive(Clone, Copy, PartialEq)]
+#[derive(Clone, Copy, Debug, PartialEq)]
 pub(crate) enum Kind {
     MoveTo = 1,
     LineTo = 2,
@@ -72,13 +72,15 @@ impl Kind {
 pub struct Commands<'a> {
     rest: &'a [u8],
     at: At,
+    /// The kind of the record directly before.
+    before: Option<Kind>,
 }
 
 /// Reads a list, any bytes, as commands.
 ///
-/// Each record is its command, or the refusal with which the library turns it away: 8 to 11, with
-/// the same record. Behind a refusal there is nothing more. That the list is too long (7) and the
-/// point rule (12), which takes a transform and an offset to judge, are left to the drawing.
+/// Each record is its command, or the refusal with which the library turns it away: 8 to 11 and 18,
+/// with the same record. Behind a refusal there is nothing more. That the list is too long (7) and
+/// the point rule (12), which takes a transform and an offset to judge, are left to the drawing.
 ///
 /// ```
 /// use mosszephyr::{commands, Command, Point, Refusal};
@@ -96,6 +98,7 @@ pub fn commands(list: &(impl AsRef<[u8]> + ?Sized)) -> Commands<'_> {
     Commands {
         rest: list.as_ref(),
         at: At { record: 0, byte: 0 },
+        before: None,
     }
 }
 
@@ -106,21 +109,22 @@ impl Iterator for Commands<'_> {
         if self.rest.is_empty() {
             return None;
         }
-        let judged = first_kind(self.rest, self.at);
+        let judged = first_kind(self.rest, self.at, self.before);
         let bytes = judged.map_or(self.rest.len(), Kind::bytes);
         let (record, rest) = self.rest.split_at(bytes);
         self.rest = rest;
         self.at.record += 1;
         self.at.byte += bytes;
+        self.before = judged.ok();
         Some(judged.map(|kind| command_in(kind, record)))
     }
 }
 
 impl FusedIterator for Commands<'_> {}
 
-/// The kind of the record that these bytes begin with, if it is whole and may stand there. The
-/// tests stand in the library's order.
-fn first_kind(rest: &[u8], at: At) -> Result<Kind, Refusal> {
+/// The kind of the record that these bytes begin with, if it is whole and may stand behind the one
+/// before. The tests stand in the library's order.
+fn first_kind(rest: &[u8], at: At, before: Option<Kind>) -> Result<Kind, Refusal> {
     let &[l0, l1, k0, k1, ..] = rest else {
         return Err(Refusal::Cut(at));
     };
@@ -131,10 +135,14 @@ fn first_kind(rest: &[u8], at: At) -> Result<Kind, Refusal> {
     if rest.len() < kind.bytes() {
         return Err(Refusal::Cut(at));
     }
-    if at.record == 0 && kind != Kind::MoveTo {
-        return Err(Refusal::Start(at));
+    match (before, kind) {
+        (_, Kind::MoveTo) => Ok(kind),
+        (None, _) => Err(Refusal::Start(at)),
+        (Some(Kind::Close), Kind::LineTo | Kind::QuadTo | Kind::CurveTo) => {
+            Err(Refusal::AfterClose(at))
+        }
+        _ => Ok(kind),
     }
-    Ok(kind)
 }
 
 /// The command of a whole record.

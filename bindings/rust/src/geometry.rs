@@ -200,7 +200,7 @@ pub struct Placement {
 ///
 /// # Errors
 ///
-/// 6 to 12, the point rule judging the points without any offset.
+/// 6 to 12 and 18, the point rule judging the points without any offset.
 ///
 /// ```
 /// use mosszephyr::{bounds, Path, Point, Transform};
@@ -228,8 +228,8 @@ pub fn bounds(list: impl AsRef<[u8]>, transform: Transform) -> Result<Bounds, Re
 ///
 /// # Errors
 ///
-/// 6 to 12, the point rule judging the points with the offset added; for an empty path it judges
-/// the offset alone, and no record is at fault.
+/// 6 to 12 and 18, the point rule judging the points with the offset added; for an empty path it
+/// judges the offset alone, and no record is at fault.
 ///
 /// ```
 /// use mosszephyr::{draw, placement, Label, Origin, Path, Point, Transform};

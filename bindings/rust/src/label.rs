@@ -141,7 +141,7 @@ pub const fn bands_words(rows: usize, step: usize, cells: usize) -> Option<usize
 ///
 /// # Errors
 ///
-/// 1 to 13.
+/// 1 to 13 and 18.
 ///
 /// ```
 /// use mosszephyr::{draw_band, mask_bytes, workspace_words, Label, Path};
@@ -175,8 +175,8 @@ pub fn draw_band(
 ///
 /// # Errors
 ///
-/// 1 to 12 as [`draw_band`] has them, and 13 where one of the bands stores more places than it has
-/// room for; the mask is then as it was.
+/// 1 to 12 and 18 as [`draw_band`] has them, and 13 where one of the bands stores more places than it
+/// has room for; the mask is then as it was.
 ///
 /// ```
 /// use mosszephyr::{bands_words, draw_band, draw_in_bands, Drawn, Label, Path, Refusal};

@@ -48,6 +48,7 @@
 //! | zeno 0.3.3 | here |
 //! |---|---|
 //! | a `Vec<Command>` with `PathBuilder`'s `move_to`, `line_to`, `quad_to`, `curve_to`, `close` | [`Path`] with the same methods, or [`Command`]s collected into one; relative commands, arcs and SVG are left behind |
+//! | a line or a curve directly behind `close`, which begins where the closed subpath began | refused with 18; with a `move_to` to that point before it the mask is the same |
 //! | `Mask::new(&path).size(w, h)` | [`Label::new`]`(w, h)`: the label is told first, the path when it is drawn |
 //! | `.origin(..)`, `.offset(..)`, `.transform(Some(t))` | the label's fields `origin`, `offset`, `transform` |
 //! | `.style(Fill::EvenOdd)`, `Style::Fill(..)` | the field `fill`; strokes are left behind |

@@ -20,8 +20,22 @@ use crate::{commands, Command, Commands, Point};
 ///
 /// A path may hold any bytes; they are judged when it is drawn, bounded or placed. The first record
 /// must be a MoveTo, and the list may have 65,536 bytes. An empty path is valid. A subpath that is
-/// still open is closed by the next MoveTo, or by the end; behind a Close the pen goes on from
-/// where the subpath started.
+/// still open is closed by the next MoveTo, or by the end.
+///
+/// What is drawn must begin with a MoveTo, also behind a Close: directly behind that stands a MoveTo,
+/// another Close, or nothing. A `Path` does not look back at what it holds, so its methods write a
+/// line or a curve there too, and the drawing refuses it with 18:
+///
+/// ```
+/// use mosszephyr::{draw, Label, Path};
+///
+/// let mut path = Path::new();
+/// path.move_to((1.0, 1.0)).line_to((3.0, 1.0)).close().line_to((3.0, 3.0));
+/// let refusal = draw(&path, &Label::new(4, 4)).unwrap_err();
+/// assert_eq!((refusal.number(), refusal.record()), (18, Some(3)));
+/// ```
+///
+/// The bytes of a list:
 ///
 /// ```
 /// use mosszephyr::Path;
@@ -101,7 +115,7 @@ impl Path {
         commands(self)
     }
 
-    /// Adds a command.
+    /// Adds a command, whatever stands before it: see [`Path`] for what is refused behind a close.
     pub fn push(&mut self, command: Command) -> &mut Path {
         match command {
             Command::MoveTo(p) => self.record(Kind::MoveTo, &[p]),
@@ -117,17 +131,17 @@ impl Path {
         self.push(Command::MoveTo(p.into()))
     }
 
-    /// A line to a point.
+    /// A line to a point; refused with 18 directly behind a close.
     pub fn line_to(&mut self, p: impl Into<Point>) -> &mut Path {
         self.push(Command::LineTo(p.into()))
     }
 
-    /// A quadratic curve with a control point to a point.
+    /// A quadratic curve with a control point to a point; refused with 18 directly behind a close.
     pub fn quad_to(&mut self, control: impl Into<Point>, p: impl Into<Point>) -> &mut Path {
         self.push(Command::QuadTo(control.into(), p.into()))
     }
 
-    /// A cubic curve with two control points to a point.
+    /// A cubic curve with two control points to a point; refused with 18 directly behind a close.
     pub fn curve_to(
         &mut self,
         control1: impl Into<Point>,
@@ -137,7 +151,7 @@ impl Path {
         self.push(Command::CurveTo(control1.into(), control2.into(), p.into()))
     }
 
-    /// Closes the subpath.
+    /// Closes the subpath. What is drawn after it begins with [`move_to`](Path::move_to).
     pub fn close(&mut self) -> &mut Path {
         self.push(Command::Close)
     }
@@ -153,6 +167,8 @@ impl Path {
     }
 }
 
+/// The commands stand behind those that are there, as they are: where the path ends with a close and
+/// they begin with a line or a curve, the list is refused with 18.
 impl Extend<Command> for Path {
     fn extend<I: IntoIterator<Item = Command>>(&mut self, commands: I) {
         for command in commands {
@@ -161,6 +177,7 @@ impl Extend<Command> for Path {
     }
 }
 
+/// As for commands by value.
 impl<'a> Extend<&'a Command> for Path {
     fn extend<I: IntoIterator<Item = &'a Command>>(&mut self, commands: I) {
         self.extend(commands.into_iter().copied());

@@ -105,7 +105,7 @@ impl fmt::Debug for Picture {
 ///
 /// # Errors
 ///
-/// 1, 3 and 6 to 12.
+/// 1, 3, 6 to 12 and 18.
 ///
 /// ```
 /// use mosszephyr::{draw, Label, Path, Refusal};

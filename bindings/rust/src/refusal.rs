@@ -20,12 +20,14 @@ use std::fmt;
 /// | 11 | the list begins with another record than a MoveTo |
 /// | 12 | the point rule refuses a point |
 /// | 13 | the distinct places (column, row) that are stored outnumber the pool's |
+/// | 18 | a LineTo, QuadTo or CurveTo stands directly behind a Close |
 ///
 /// The point rule: transformed and moved by the offset, both parts are finite and, times 256 and
 /// cut toward zero, at most 1,048,576 either way: 4096.0034 passes and 4096.00390625 fails.
 ///
-/// 1 to 7 are judged in this order; then each record, from the first on, up to one that is refused;
-/// 13 comes last. Which of them a function gives is said by its *Errors*.
+/// 1 to 7 are judged in this order; then each record, from the first on, up to one that is refused: a
+/// cut header (8), 9, 10, a cut body (8), 11, 18, 12. 13 comes last. 14 to 17 are not given. Which of
+/// them a function gives is said by its *Errors*.
 ///
 /// As text, by `{}` and by `{:?}`, a refusal is what a person can use, so a `main` that returns it
 /// tells enough:
@@ -70,6 +72,8 @@ pub enum Refusal {
     Point(Option<At>),
     /// 13: more places than the pool holds.
     Room,
+    /// 18: a LineTo, QuadTo or CurveTo directly behind a Close, with no MoveTo between.
+    AfterClose(At),
     /// A number that this version of the crate has no words for, from a library newer than it.
     Unknown(u32),
 }
@@ -101,11 +105,12 @@ impl Refusal {
             11 => Refusal::Start(at),
             12 => Refusal::Point((!list.is_empty()).then_some(at)),
             13 => Refusal::Room,
+            18 => Refusal::AfterClose(at),
             unknown => Refusal::Unknown(unknown),
         }
     }
 
-    /// The refusal's number, 1 to 13.
+    /// The refusal's number, 1 to 13 or 18.
     #[must_use]
     pub const fn number(&self) -> u32 {
         match *self {
@@ -122,6 +127,7 @@ impl Refusal {
             Refusal::Start(_) => 11,
             Refusal::Point(_) => 12,
             Refusal::Room => 13,
+            Refusal::AfterClose(_) => 18,
             Refusal::Unknown(number) => number,
         }
     }
@@ -157,15 +163,20 @@ impl Refusal {
                 "a point is NaN, infinite, or 1/256 of a pixel or more beyond 4,096 from zero"
             }
             Refusal::Room => "the drawing needs more places than the workspace has room for",
+            Refusal::AfterClose(_) => {
+                "the record draws directly after a Close, with no MoveTo between"
+            }
             Refusal::Unknown(_) => "an unknown refusal",
         }
     }
 
     const fn at(&self) -> Option<At> {
         match *self {
-            Refusal::Cut(at) | Refusal::Kind(at) | Refusal::Length(at) | Refusal::Start(at) => {
-                Some(at)
-            }
+            Refusal::Cut(at)
+            | Refusal::Kind(at)
+            | Refusal::Length(at)
+            | Refusal::Start(at)
+            | Refusal::AfterClose(at) => Some(at),
             Refusal::Point(at) => at,
             _ => None,
         }
@@ -219,18 +230,21 @@ mod tests {
 
     #[test]
     fn numbers_are_kept_whatever_they_are() {
-        for number in (1..20).chain([u32::MAX]) {
+        for number in (1..=20).chain([u32::MAX]) {
             assert_eq!(Refusal::new(number, 0, &list()).number(), number);
         }
-        let unknown = Refusal::new(14, 2, &list());
-        assert_eq!(unknown, Refusal::Unknown(14));
-        assert_eq!(unknown.to_string(), "refused with 14: an unknown refusal");
+        for number in [14, 15, 16, 17, 19, 20] {
+            let unknown = Refusal::new(number, 2, &list());
+            assert_eq!(unknown, Refusal::Unknown(number));
+            let said = format!("refused with {number}: an unknown refusal");
+            assert_eq!(unknown.to_string(), said);
+        }
     }
 
     #[test]
     fn bytes_are_those_before_the_record() {
         for (record, byte) in [(0, 0), (1, 12), (2, 16), (3, 36)] {
-            for number in 8..=12 {
+            for number in (8..=12).chain([18]) {
                 let refusal = Refusal::new(number, record, &list());
                 assert_eq!(
                     (refusal.record(), refusal.byte()),
@@ -240,13 +254,17 @@ mod tests {
         }
         let last = Refusal::new(12, 2, &list()).to_string();
         assert!(last.starts_with("refused with 12 at record 2 (byte 16): a point"));
+        let last = Refusal::new(18, 2, &list()).to_string();
+        assert!(last.starts_with("refused with 18 at record 2 (byte 16): the record draws"));
     }
 
     #[test]
-    fn only_8_to_12_have_a_record() {
-        for number in [1, 2, 3, 4, 5, 6, 7, 13, 14] {
+    fn only_8_to_12_and_18_have_a_record() {
+        for number in 0..=20 {
             let refusal = Refusal::new(number, 1, &list());
-            assert_eq!((refusal.record(), refusal.byte()), (None, None), "{number}");
+            let named = (8..=12).contains(&number) || number == 18;
+            let expected = named.then_some((1, 12));
+            assert_eq!(refusal.record().zip(refusal.byte()), expected, "{number}");
         }
         assert_eq!(Refusal::new(12, 0, &[]), Refusal::Point(None));
     }

@@ -45,7 +45,7 @@ impl Workspace {
     ///
     /// # Errors
     ///
-    /// 1, 3, 4 and 6 to 12.
+    /// 1, 3, 4, 6 to 12 and 18.
     pub fn draw(
         &mut self,
         list: impl AsRef<[u8]>,
@@ -63,7 +63,7 @@ impl Workspace {
     ///
     /// # Errors
     ///
-    /// 1, 3 and 6 to 12, and 4 where the buffer holds no row of a label that has some.
+    /// 1, 3, 6 to 12 and 18, and 4 where the buffer holds no row of a label that has some.
     ///
     /// ```
     /// use mosszephyr::{Label, Path, Workspace};
@@ -148,9 +148,9 @@ impl Bands<'_> {
         let mask = &mut self.buffer[..bytes];
         let words = self.workspace.words(width, rows.len());
         let band = path_rows(&self.label, &rows);
-        // 1, 3 and 6 to 12 are judged of the same list and label as by `Workspace::bands`; the band
-        // lies within the label (2), the buffer holds its rows (4), and the words are enough for any
-        // rows (5, 13).
+        // 1, 3, 6 to 12 and 18 are judged of the same list and label as by `Workspace::bands`; the
+        // band lies within the label (2), the buffer holds its rows (4), and the words are enough for
+        // any rows (5, 13).
         if let Err(refusal) = draw_fitting(self.list, &self.label, band, mask, words) {
             unreachable!("a band of a label that was accepted: {refusal}");
         }
@@ -258,7 +258,7 @@ pub(crate) fn draw_fitting(
     }
 }
 
-/// Refusals 1, 3, 4 and 6 to 12 of a label that is to be drawn into a buffer of some of its rows.
+/// Refusals 1, 3, 4, 6 to 12 and 18 of a label that is to be drawn into a buffer of some of its rows.
 ///
 /// Asked with the first row, so that 4 is judged and has its place among the others. One word for
 /// one row leaves no pool: 13 says no more than that there is ink.

@@ -164,13 +164,20 @@ fn a_later_band_without_room_leaves_the_mask() {
     assert_eq!((mask, words), ([7; 12], [0; 7]));
 }
 
-/// 1 to 12 are judged over all rows, whatever the step: here a mask and a workspace that would do
-/// for one row, and a cut record.
+/// 1 to 12 and 18 are judged over all rows, whatever the step: here a mask and a workspace that would
+/// do for one row, a cut record, and a line behind a Close.
 #[test]
 fn refusals_are_those_of_the_whole_band() {
     let label = Label::new(4, 3);
-    let faulty = Path::from_bytes([k1().as_bytes(), &[2]].concat());
-    let cases = [(k1(), 11, 7, 4), (k1(), 12, 2, 5), (faulty, 12, 7, 8)];
+    let cut = Path::from_bytes([k1().as_bytes(), &[2]].concat());
+    let mut after_close = k1();
+    after_close.line_to((2.0, 2.0));
+    let cases = [
+        (k1(), 11, 7, 4),
+        (k1(), 12, 2, 5),
+        (cut, 12, 7, 8),
+        (after_close, 12, 7, 18),
+    ];
     for (path, bytes, count, number) in cases {
         for step in [0, 1, usize::MAX] {
             let (mut mask, mut words) = (vec![7; bytes], vec![9; count]);

@@ -6,8 +6,8 @@ const HEADER: &str = include_str!("../../../mosszephyr.h");
 
 const AT: At = At { record: 0, byte: 0 };
 
-/// Each refusal with its name in the header.
-const REFUSALS: [(&str, Refusal); 13] = [
+/// Each refusal with its name in the header, in the header's order.
+const REFUSALS: [(&str, Refusal); 14] = [
     ("MZ_SIZE", Refusal::Size),
     ("MZ_BAND", Refusal::Band),
     ("MZ_PITCH", Refusal::Pitch),
@@ -21,16 +21,18 @@ const REFUSALS: [(&str, Refusal); 13] = [
     ("MZ_START", Refusal::Start(AT)),
     ("MZ_POINT", Refusal::Point(Some(AT))),
     ("MZ_ROOM", Refusal::Room),
+    ("MZ_AFTER_CLOSE", Refusal::AfterClose(AT)),
 ];
 
+/// Neither has a number that the other has not.
 #[test]
 fn refusals_have_the_headers_numbers() {
-    for (index, (name, refusal)) in REFUSALS.iter().enumerate() {
-        assert_eq!(refusal.number() as usize, index + 1);
-        let line = format!("    {name} = {}", refusal.number());
-        let said = |end| HEADER.contains(&format!("{line}{end}"));
-        assert!(said(",\n") || said("\n"), "{line}");
-    }
+    let (_, behind) = HEADER.split_once("    MZ_ACCEPTED = 0,\n").unwrap();
+    let (lines, _) = behind.split_once("};").unwrap();
+    let named = REFUSALS.map(|(name, refusal)| format!("    {name} = {}", refusal.number()));
+    assert_eq!(lines.trim_end(), named.join(",\n"));
+    let numbers = REFUSALS.iter().map(|(_, refusal)| refusal.number());
+    assert!(numbers.eq((1..=13).chain([18])));
 }
 
 #[test]

@@ -1,6 +1,7 @@
 //! The crate over the library, as its users call it: the labels and refusals of the rules
 //! (docs/RULES.md), bands, and what a call leaves in the memory that it is lent.
 
+mod after_close;
 mod bands;
 mod header;
 mod labels;

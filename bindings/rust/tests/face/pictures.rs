@@ -151,6 +151,8 @@ fn the_fullest_rows_fit_by_three() {
 fn a_workspace_serves_many_labels() {
     let mut workspace = Workspace::default();
     let comb = comb(300, 60);
+    let mut after_close = k1();
+    after_close.line_to((2.0, 2.0));
     let labels = [
         (&comb, 300, 60),
         (&k1(), 4, 3),
@@ -160,6 +162,7 @@ fn a_workspace_serves_many_labels() {
         (&k1(), 4097, 1),
         (&k1(), 1, 4097),
         (&Path::from_bytes([1]), 4, 3),
+        (&after_close, 4, 3),
         (&k1(), 4096, 3),
         (&k1(), 0, 3),
         (&k1(), 4, 0),

@@ -157,9 +157,13 @@ fn the_whole_list_is_judged_first() {
     let found = refusal(&cut, &label, 4);
     assert_eq!((found.number(), found.byte()), (8, Some(52)));
     let mut far = k1();
-    far.line_to((0.0, 5000.0));
+    far.move_to((0.0, 5000.0));
     let found = refusal(far.as_bytes(), &label, 4);
     assert_eq!((found.number(), found.record()), (12, Some(5)));
+    let mut after_close = k1();
+    after_close.line_to((0.0, 5000.0));
+    let found = refusal(after_close.as_bytes(), &label, 4);
+    assert_eq!((found.number(), found.byte()), (18, Some(52)));
 }
 
 #[test]

@@ -181,5 +181,10 @@ fn a_path_is_shown_as_commands() {
     let shown = "[MoveTo(Point { x: 1.0, y: 2.5 }), Close, \
                  refused with 8 at record 2 (byte 16): the end of the list cuts the record]";
     assert_eq!(format!("{cut:?}"), shown);
+    path.line_to((3.0, 4.0)).close();
+    let shown = "[MoveTo(Point { x: 1.0, y: 2.5 }), Close, \
+                 refused with 18 at record 2 (byte 16): \
+                 the record draws directly after a Close, with no MoveTo between]";
+    assert_eq!(format!("{path:?}"), shown);
     assert_eq!(format!("{:?}", Path::new()), "[]");
 }

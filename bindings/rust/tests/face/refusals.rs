@@ -191,9 +191,10 @@ fn start_is_11() {
 fn point_is_12() {
     for far in [JUST_BEYOND, -JUST_BEYOND, 3e38, f32::INFINITY, f32::NAN] {
         let mut path = k1();
-        path.curve_to((0.0, 0.0), (0.0, far), (0.0, 0.0));
+        path.move_to((0.0, 0.0))
+            .curve_to((0.0, 0.0), (0.0, far), (0.0, 0.0));
         let refusal = list_refusal(&path);
-        assert_eq!(told(refusal), at(12, 5, 52));
+        assert_eq!(told(refusal), at(12, 6, 64));
         assert!(matches!(refusal, Refusal::Point(Some(_))));
         let words = "a point is NaN, infinite, or 1/256 of a pixel or more beyond 4,096 from zero";
         assert_eq!(refusal.words(), words);
@@ -284,6 +285,22 @@ fn room_is_13() {
     }
     let (mut mask, mut words) = ([7; 12], [9; 11]);
     assert!(draw_band(k1(), &label, 0..3, &mut mask, &mut words).is_ok());
+}
+
+#[test]
+fn after_close_is_18() {
+    let p = Point::ZERO;
+    for command in [LineTo(p), QuadTo(p, p), CurveTo(p, p, p)] {
+        let mut path = k1();
+        path.push(command);
+        let refusal = list_refusal(&path);
+        assert_eq!(told(refusal), at(18, 5, 52));
+        assert!(matches!(refusal, Refusal::AfterClose(_)));
+        let words = "the record draws directly after a Close, with no MoveTo between";
+        assert_eq!(refusal.words(), words);
+        let said = format!("refused with 18 at record 5 (byte 52): {words}");
+        assert_eq!(refusal.to_string(), said);
+    }
 }
 
 /// A list cut anywhere: whole records are a list, anything else is 8 at the record that is cut.
