@@ -28,7 +28,7 @@ pub struct Outcome {
     pub words: Vec<u32>,
 }
 
-/// The whole label of a call, whatever its band and its pool are; 1 to 12 may refuse it.
+/// The whole label of a call, whatever its band and its pool are; all but 13 may refuse it.
 pub fn whole(drawing: &Drawing) -> Result<Whole, Refusal> {
     let path = reading::judge(drawing)?;
     let label = label_of(drawing, &path, drawing.up, drawing.pitch);
@@ -40,7 +40,8 @@ pub fn whole(drawing: &Drawing) -> Result<Whole, Refusal> {
     })
 }
 
-/// The pairs that are stored for the whole label of a call, in zeno's order; 1 to 12 may refuse it.
+/// The pairs that are stored for the whole label of a call, in zeno's order; all but 13 may refuse
+/// it.
 pub fn pairs(drawing: &Drawing) -> Result<Vec<CellAt>, Refusal> {
     let path = reading::judge(drawing)?;
     let label = label_of(drawing, &path, false, drawing.width);

@@ -152,7 +152,7 @@ fn put_floats(bytes: &mut Vec<u8>, t: &Transform, offset: Point) {
 #[cfg(test)]
 mod tests {
     use super::*;
-    use std::collections::HashMap;
+    use std::collections::{HashMap, HashSet};
 
     /// Takes the file apart again by the table above.
     struct Reader<'a>(&'a [u8]);
@@ -168,25 +168,27 @@ mod tests {
             u32::from_le_bytes(self.take(4).try_into().unwrap()) as usize
         }
 
-        /// Steps over a drawing and tells its number, words, mask length and whether it is whole.
-        fn drawing(&mut self) -> [usize; 4] {
+        /// Steps over a drawing and tells its number and index, words, mask length and whether it is
+        /// whole.
+        fn drawing(&mut self) -> [usize; 5] {
             let list = self.number();
             self.take(list + 8 * 4 + 2 + 5 * 4);
             let words = self.number();
-            let number = self.number();
-            self.take(3 * 4);
+            let (number, index) = (self.number(), self.number());
+            self.take(2 * 4);
             let mask = self.number();
             let whole = usize::from(self.take(1)[0]);
             self.take(if whole == 1 { mask } else { 8 });
-            [number, words, mask, whole]
+            [number, index, words, mask, whole]
         }
 
-        fn placing(&mut self) -> usize {
+        /// Steps over a placement and tells its number and index.
+        fn placing(&mut self) -> [usize; 2] {
             let list = self.number();
             self.take(list + 8 * 4 + 1);
-            let number = self.number();
-            self.take(7 * 4);
-            number
+            let answer = [self.number(), self.number()];
+            self.take(6 * 4);
+            answer
         }
     }
 
@@ -199,17 +201,39 @@ mod tests {
         let mut numbers: HashMap<usize, usize> = HashMap::new();
         let mut by_checksum = 0;
         for _ in 0..fixture.drawings {
-            let [number, words, mask, whole] = reader.drawing();
+            let [number, _, words, mask, whole] = reader.drawing();
             *numbers.entry(number).or_default() += 1;
             assert!(words <= 69_632 && mask <= 65_536, "{words} {mask}");
             by_checksum += 1 - whole;
         }
         assert_eq!(reader.number(), fixture.placements);
-        let placed = (0..fixture.placements).filter(|_| reader.placing() == 0);
+        let placed = (0..fixture.placements).filter(|_| reader.placing()[0] == 0);
         assert!(2 * placed.count() > fixture.placements);
         assert!(reader.0.is_empty());
-        assert!((0..=13).all(|number| numbers[&number] > 0), "{numbers:?}");
+        let mut all = (0..=13).chain([18]);
+        assert!(all.all(|number| numbers[&number] > 0), "{numbers:?}");
         assert!(by_checksum > 20, "{by_checksum}");
+    }
+
+    /// Records that draw behind a Close stand in many places, of drawings and of placements.
+    #[test]
+    fn drawing_behind_a_close_is_in_the_file() {
+        let fixture = fixture();
+        let mut reader = Reader(&fixture.bytes[MAGIC.len() + 4..]);
+        let mut of_drawings = HashSet::new();
+        for _ in 0..fixture.drawings {
+            let [number, index, ..] = reader.drawing();
+            of_drawings.extend((number == 18).then_some(index));
+        }
+        reader.number();
+        let mut of_placements = HashSet::new();
+        for _ in 0..fixture.placements {
+            let [number, index] = reader.placing();
+            of_placements.extend((number == 18).then_some(index));
+        }
+        for indices in [of_drawings, of_placements] {
+            assert!((2..=6).all(|index| indices.contains(&index)), "{indices:?}");
+        }
     }
 
     #[test]

@@ -4,6 +4,7 @@
 //!
 //!     valgrind --error-exitcode=1 target/compare/release/compare fuzz --seconds 300
 
+use std::collections::BTreeMap;
 use std::time::{Duration, Instant};
 
 use crate::face;
@@ -25,12 +26,14 @@ pub const USAGE: &str = "compare fuzz --seconds N [--seed S]";
 const ROUNDS: usize = 16;
 
 /// How often each number was answered.
+type Numbers = BTreeMap<u32, u64>;
+
 #[derive(Default)]
 struct Counts {
-    draw: [u64; 14],
-    in_bands: [u64; 14],
-    bounds: [u64; 14],
-    placement: [u64; 14],
+    draw: Numbers,
+    in_bands: Numbers,
+    bounds: Numbers,
+    placement: Numbers,
 }
 
 pub fn fuzz(words: &[String]) -> Result<(), Stopped> {
@@ -53,10 +56,14 @@ pub fn fuzz(words: &[String]) -> Result<(), Stopped> {
     Ok(())
 }
 
-fn told(counts: &[u64; 14]) -> String {
-    let total: u64 = counts.iter().sum();
-    let numbers = counts.iter().enumerate().filter(|(_, count)| **count > 0);
+fn count(numbers: &mut Numbers, number: u32) {
+    *numbers.entry(number).or_default() += 1;
+}
+
+fn told(numbers: &Numbers) -> String {
+    let total: u64 = numbers.values().sum();
     let each: Vec<String> = numbers
+        .iter()
         .map(|(number, count)| format!("{number}: {count}"))
         .collect();
     format!("{total}, by number {}", each.join(", "))
@@ -69,15 +76,17 @@ fn one_round(dice: &mut Dice, counts: &mut Counts) -> Result<(), String> {
     let step = any_step(drawing.height, dice);
     match draw_both_ways(&drawing, step, around, seed) {
         Ok((at_once, in_bands)) => {
-            counts.draw[at_once] += 1;
-            counts.in_bands[in_bands] += 1;
+            count(&mut counts.draw, at_once);
+            count(&mut counts.in_bands, in_bands);
         }
         Err(_) => return Err(smaller(drawing, step, around, seed)),
     }
     for placing in [placing_of(&drawing, dice), any_placing(dice)] {
         let with_case = |what: String| format!("DIFFERENT: fuzz\n{}{what}", placing.shown());
-        counts.bounds[bounds(&placing, around).map_err(with_case)?] += 1;
-        counts.placement[placement(&placing, around).map_err(with_case)?] += 1;
+        let number = bounds(&placing, around).map_err(with_case)?;
+        count(&mut counts.bounds, number);
+        let number = placement(&placing, around).map_err(with_case)?;
+        count(&mut counts.placement, number);
     }
     Ok(())
 }
@@ -108,7 +117,7 @@ fn draw_both_ways(
     step: usize,
     around: Around,
     seed: u64,
-) -> Result<(usize, usize), String> {
+) -> Result<(u32, u32), String> {
     let at_once = draw_twice(drawing, Way::AtOnce, around, seed)?;
     let told = |what: String| format!("in bands: {what}");
     let in_bands = draw_twice(drawing, Way::InBands(step), around, seed).map_err(told)?;
@@ -116,8 +125,7 @@ fn draw_both_ways(
         agree_on_answers(&in_bands.answer, &at_once.answer).map_err(told)?;
         agree_on_masks(drawing.pitch, in_bands.mask.part(), at_once.mask.part()).map_err(told)?;
     }
-    let number = |called: Called| called.answer.number as usize;
-    Ok((number(at_once), number(in_bands)))
+    Ok((at_once.answer.number, in_bands.answer.number))
 }
 
 /// Draws, and draws again over other old bytes and words: the answer and the painted bytes stay.
@@ -137,8 +145,8 @@ fn draw_twice(drawing: &Drawing, way: Way, around: Around, seed: u64) -> Result<
     Ok(once)
 }
 
-/// Draws and judges what is left: numbers up to 12 by the reading, everything else by the rules for
-/// what a call leaves.
+/// Draws and judges what is left: every refusal but 13 by the reading, everything else by the rules
+/// for what a call leaves.
 fn draw(drawing: &Drawing, way: Way, around: Around) -> Result<Called, String> {
     let called = drawn_in(drawing, way, around)?;
     let answer = called.answer;
@@ -199,7 +207,7 @@ fn painted(drawing: &Drawing, accepted: bool) -> Vec<bool> {
     painted
 }
 
-fn bounds(placing: &Placing, around: Around) -> Result<usize, String> {
+fn bounds(placing: &Placing, around: Around) -> Result<u32, String> {
     let list = Lent::new(&placing.list, BYTE_MARK, around);
     let answer = face::bounds(placing, list.part());
     keeps(&list, "the list")?;
@@ -207,7 +215,7 @@ fn bounds(placing: &Placing, around: Around) -> Result<usize, String> {
     same_number((answer.number, answer.index), judged.err())
 }
 
-fn placement(placing: &Placing, around: Around) -> Result<usize, String> {
+fn placement(placing: &Placing, around: Around) -> Result<u32, String> {
     let list = Lent::new(&placing.list, BYTE_MARK, around);
     let answer = face::placement(placing, list.part());
     keeps(&list, "the list")?;
@@ -215,12 +223,12 @@ fn placement(placing: &Placing, around: Around) -> Result<usize, String> {
     same_number((answer.number, answer.index), judged.err())
 }
 
-fn same_number(ours: (u32, u32), refusal: Option<Refusal>) -> Result<usize, String> {
+fn same_number(ours: (u32, u32), refusal: Option<Refusal>) -> Result<u32, String> {
     let theirs = refusal.map_or((0, 0), |r| (u32::from(r.number), r.index as u32));
     if ours != theirs {
         return Err(format!(
             "number, index: the port {ours:?}, the rule {theirs:?}"
         ));
     }
-    Ok(ours.0 as usize)
+    Ok(ours.0)
 }

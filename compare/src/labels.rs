@@ -2,7 +2,7 @@
 //! against the reading, the driver and zeno.
 
 use crate::boundaries::{closed, rectangle};
-use crate::drawing::Drawing;
+use crate::drawing::{Drawing, Way};
 use crate::driver::{self, Outcome};
 use crate::list;
 use crate::oracle::{
@@ -35,7 +35,7 @@ fn refusal(drawing: &Drawing) -> (u8, usize) {
     (outcome.number, outcome.index)
 }
 
-/// What 7 to 12 say of a list by itself.
+/// What 7 to 12 and 18 say of a list by itself.
 fn judged(bytes: &[u8]) -> Result<usize, Refusal> {
     reading::judge_bounds(bytes, &Transform::IDENTITY).map(|path| path.len())
 }
@@ -226,6 +226,33 @@ fn records_are_judged_in_order() {
     assert_eq!(judged(&second), refused(12, 1));
 }
 
+/// 18 by the record before, in every call that reads a list.
+#[test]
+fn nothing_is_drawn_directly_behind_a_close() {
+    use Command::{Close, LineTo, MoveTo};
+    let (zero, nan) = (at(0.0, 0.0), at(f32::NAN, 0.0));
+    let accepted: Result<(), Refusal> = Ok(());
+    let refused = |number, index| Err(Refusal { number, index });
+    for (path, answer) in [
+        (&[MoveTo(zero), Close, LineTo(zero)][..], refused(18, 2)),
+        (&[MoveTo(zero), Close, Close, LineTo(nan)], refused(18, 3)),
+        (&[Close, LineTo(zero)], refused(11, 0)),
+        (&[MoveTo(zero), Close, Close], accepted),
+        (&[MoveTo(zero), Close, MoveTo(zero), LineTo(zero)], accepted),
+    ] {
+        let bytes = list::written(path);
+        let identity = Transform::IDENTITY;
+        let bounds = driver::bounds(&bytes, identity);
+        assert_eq!(bounds.map(|_| ()), answer);
+        let placed = driver::placement(&bytes, identity, zero, Origin::TopLeft);
+        assert_eq!(placed.map(|_| ()), answer);
+        for way in [Way::AtOnce, Way::InBands(1)] {
+            let drawn = driver::drawn_in(&Drawing::plain(path, 2, 2), way);
+            assert_eq!(drawn.map(|_| ()), answer);
+        }
+    }
+}
+
 #[test]
 fn longest_list() {
     let mut path = vec![Command::MoveTo(at(0.0, 0.0))];
@@ -335,6 +362,26 @@ fn zeno_goes_on_beyond_the_limits() {
         painted(&rectangle(0.0, 0.0, far, 1.0), 4),
         (vec![255; 4], 1)
     );
+}
+
+/// What the port refuses as drawn behind a Close, zeno draws from the closed subpath's start, as it
+/// does behind a MoveTo to it.
+#[test]
+fn zeno_goes_on_behind_a_close() {
+    let mut path = rectangle(1.0, 1.0, 3.0, 2.0);
+    let behind = [
+        Command::LineTo(at(4.0, 2.5)),
+        Command::QuadTo(at(3.0, 3.0), at(0.5, 3.0)),
+    ];
+    let mut moved = path.clone();
+    moved.push(moved[0]);
+    path.extend(behind);
+    moved.extend(behind);
+    assert_eq!(refusal(&Drawing::plain(&path, 4, 3)), (18, 5));
+    let painted = oracle::painted(&label(&path, 4, 3)).unwrap();
+    let drawn = drawn(&moved, 4, 3);
+    assert_eq!(drawn.number, 0);
+    assert_eq!((painted.mask, painted.cells), (drawn.mask, drawn.cells));
 }
 
 /// The largest label: a pixel in each corner, and a rectangle from one end of the point rule to the

@@ -38,8 +38,8 @@ pub enum Character {
     DegenerateCurves,
     /// Curves over the whole range of the point rule.
     HugeCurves,
-    /// Commands that follow a Close with no MoveTo between.
-    AfterClose,
+    /// What may stand behind a Close: another Close, a MoveTo, the end.
+    BehindClose,
     /// Several subpaths, open, closed and of one point.
     Subpaths,
     /// Figures drawn there and back, or twice, so that sums cancel.
@@ -60,7 +60,7 @@ impl Character {
         Character::Below,
         Character::DegenerateCurves,
         Character::HugeCurves,
-        Character::AfterClose,
+        Character::BehindClose,
         Character::Subpaths,
         Character::Cancelling,
         Character::Anything,
@@ -78,15 +78,15 @@ impl Character {
             Character::Below => "below the label",
             Character::DegenerateCurves => "degenerate curves",
             Character::HugeCurves => "huge curves",
-            Character::AfterClose => "drawing after Close",
+            Character::BehindClose => "what may follow a Close",
             Character::Subpaths => "subpaths",
             Character::Cancelling => "figures that cancel",
             Character::Anything => "anything",
         }
     }
 
-    /// A path that starts with a MoveTo, for a label of this size. Every point passes the point
-    /// rule where no transform and no offset move it.
+    /// A path that starts with a MoveTo and draws nothing directly behind a Close, for a label of
+    /// this size. Every point passes the point rule where no transform and no offset move it.
     pub fn path(self, width: usize, height: usize, dice: &mut Dice) -> Vec<Command> {
         let field = Field {
             width: width as i64,
@@ -96,8 +96,8 @@ impl Character {
         match self {
             Character::Diagonals => diagonals(&field, dice),
             Character::DegenerateCurves => degenerate(&field, dice),
-            Character::AfterClose => subpaths(self, &field, dice, true),
-            Character::Subpaths => subpaths(self, &field, dice, false),
+            Character::BehindClose => behind_close(&field, dice),
+            Character::Subpaths => subpaths(&field, dice),
             Character::Cancelling => cancelling::cancelling(&field, dice),
             _ => {
                 let curves = if self == Character::HugeCurves { 3 } else { 1 };
@@ -247,23 +247,40 @@ fn degenerate(field: &Field, dice: &mut Dice) -> Vec<Command> {
     open_figure(3, dice, |dice| dice.pick(&few))
 }
 
-/// Several figures one behind the other. Where `go_on` is set a figure may follow a Close without
-/// its MoveTo.
-fn subpaths(character: Character, field: &Field, dice: &mut Dice, go_on: bool) -> Vec<Command> {
-    let mut path: Vec<Command> = Vec::new();
+/// Several figures one behind the other.
+fn subpaths(field: &Field, dice: &mut Dice) -> Vec<Command> {
+    let mut path = Vec::new();
     for _ in 0..2 + dice.below(4) {
-        let mut figure = open_figure(1, dice, |dice| field.point(character, dice));
-        if dice.one_in(6) {
-            figure.truncate(1);
-        }
-        let closed = path.last() == Some(&Command::Close);
-        let skipped = usize::from(go_on && closed && dice.one_in(2));
-        path.extend(&figure[skipped..]);
-        for _ in 0..dice.pick(&[0, 1, 1, 2]) {
-            path.push(Command::Close);
-        }
+        path.extend(figure_or_point(field, dice));
+        path.extend(vec![Command::Close; dice.pick(&[0, 1, 1, 2])]);
     }
     path
+}
+
+/// Several figures, most of them closed, some again and again. Half of them start where the one
+/// before started, which is where its Close left the pen.
+fn behind_close(field: &Field, dice: &mut Dice) -> Vec<Command> {
+    let mut path = Vec::new();
+    let mut start = Command::MoveTo(field.point(Character::Anything, dice));
+    for _ in 0..2 + dice.below(4) {
+        let mut figure = figure_or_point(field, dice);
+        if dice.one_in(2) {
+            figure[0] = start;
+        }
+        start = figure[0];
+        path.extend(figure);
+        path.extend(vec![Command::Close; dice.pick(&[0, 1, 1, 2, 3])]);
+    }
+    path
+}
+
+/// A figure, or once in six times its MoveTo alone.
+fn figure_or_point(field: &Field, dice: &mut Dice) -> Vec<Command> {
+    let mut figure = open_figure(1, dice, |dice| field.point(Character::Anything, dice));
+    if dice.one_in(6) {
+        figure.truncate(1);
+    }
+    figure
 }
 
 #[cfg(test)]
@@ -272,6 +289,7 @@ mod tests {
     use crate::list;
     use crate::oracle::Transform;
     use crate::reading;
+    use std::collections::HashSet;
 
     const SIZES: [(usize, usize); 7] = [
         (0, 0),
@@ -326,14 +344,36 @@ mod tests {
             p.iter()
                 .any(|c| matches!(c, Command::CurveTo(a, b, c) if a == b && b == c))
         });
-        some(Character::AfterClose, &|p| {
-            p.windows(2).any(|two| {
-                two[0] == Command::Close && !matches!(two[1], Command::MoveTo(_) | Command::Close)
-            })
-        });
         some(Character::Subpaths, &|p| {
             p.windows(2)
                 .any(|two| matches!(two, [Command::MoveTo(_), Command::MoveTo(_)]))
         });
+    }
+
+    /// Behind a Close stand a second and a third, MoveTos to the closed subpath's start and
+    /// elsewhere, each with everything that may follow it, and the end.
+    #[test]
+    fn all_that_may_stands_behind_a_close() {
+        let mut dice = Dice::new(42);
+        let mut moves = HashSet::new();
+        let mut lasts = HashSet::new();
+        for _ in 0..2000 {
+            let path = Character::BehindClose.path(8, 8, &mut dice);
+            let kinds: Vec<u16> = path.iter().map(|c| list::parts(c).0).collect();
+            let mut start = path[0];
+            for at in (1..path.len()).filter(|&at| kinds[at] == 1) {
+                if kinds[at - 1] == 5 {
+                    moves.insert((path[at] == start, kinds.get(at + 1).copied()));
+                }
+                start = path[at];
+            }
+            lasts.extend(kinds.windows(3).last().map(<[u16]>::to_vec));
+        }
+        for behind in [None, Some(1), Some(2), Some(3), Some(4), Some(5)] {
+            for to_start in [false, true] {
+                assert!(moves.contains(&(to_start, behind)), "{to_start} {behind:?}");
+            }
+        }
+        assert!(lasts.contains(&vec![5, 5, 5]));
     }
 }

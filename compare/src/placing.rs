@@ -174,7 +174,7 @@ mod tests {
     use crate::shrink::smallest;
     use std::collections::HashMap;
 
-    /// More than half are placed, and 6 and 8 to 12 are all met.
+    /// More than half are placed, and 6, 8 to 12 and 18 are all met.
     #[test]
     fn placings_are_of_every_kind() {
         let mut dice = Dice::new(16);
@@ -186,7 +186,7 @@ mod tests {
             *seen.entry(number).or_default() += 1;
         }
         assert!(seen[&0] > 4000, "{seen:?}");
-        for number in [6, 8, 9, 10, 11, 12] {
+        for number in [6, 8, 9, 10, 11, 12, 18] {
             assert!(seen[&number] > 20, "{number}: {seen:?}");
         }
     }

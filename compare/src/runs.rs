@@ -231,7 +231,7 @@ fn refusals(run: &mut Run) -> Result<(), String> {
             at_a_boundary as fn(&mut _) -> _,
             150_000,
         ),
-        ("drawings with sizes at their limits", at_the_limits, 30_000),
+        ("drawings with sizes at their limits", at_the_limits, 31_000),
         (
             "drawings with just room, or just not",
             with_just_room,
@@ -251,7 +251,7 @@ fn bands(run: &mut Run) -> Result<(), String> {
         (
             "labels drawn in bands by one call, with just room or just not",
             with_room_for_bands as fn(&mut _) -> _,
-            120_000,
+            121_000,
         ),
         (
             "labels drawn in bands by one call, beside a boundary",

@@ -1,4 +1,4 @@
-//! 7 to 12: the list's length, its records and their points.
+//! 7 to 12 and 18: the list's length, its records, their order and their points.
 
 use super::{k1, k1_but, Boundary, Rows};
 use crate::drawing::Drawing;
@@ -13,6 +13,9 @@ pub fn table() -> Vec<Boundary> {
     kinds(&mut rows);
     record_lengths(&mut rows);
     first_records(&mut rows);
+    drawing_behind_closes(&mut rows);
+    behind_closes(&mut rows);
+    long_lists_of_figures(&mut rows);
     points(&mut rows);
     moved_points(&mut rows);
     rows.0
@@ -111,10 +114,81 @@ fn first_records(rows: &mut Rows) {
         rows.add(&what, (11, 0), with_list(sound(kind)));
         let before = [sound(kind), start()].concat();
         rows.add(what + ", a MoveTo behind", (11, 0), with_list(before));
+        let closed = [sound(5), sound(kind)].concat();
+        let what = format!("a Close first, kind {kind} behind");
+        rows.add(what, (11, 0), with_list(closed));
     }
     rows.plain("a MoveTo first", 0, with_list(start()));
-    let after_close = [start(), sound(5), sound(2), sound(5), sound(5), sound(3)].concat();
-    rows.plain("drawing after Close", 0, with_list(after_close));
+}
+
+/// Each kind that draws, directly behind a Close: of a point, of lines, of the last of several
+/// figures.
+fn drawing_behind_closes(rows: &mut Rows) {
+    for kind in 2..=4 {
+        for closes in 1..=3 {
+            let closed = sound(5).repeat(closes);
+            for lines in [0, 1, 2, 6, 30] {
+                let list = [start(), sound(2).repeat(lines), closed.clone(), sound(kind)];
+                let what = format!("kind {kind} behind {lines} lines and {closes} Closes");
+                rows.add(what, (18, 1 + lines + closes), with_list(list.concat()));
+            }
+            for figures in [1, 2, 5] {
+                let figure = [start(), sound(4), closed.clone()].concat();
+                let list = [figure.repeat(figures), sound(kind), sound(5), start()];
+                let what = format!("kind {kind} behind {figures} figures of {closes} Closes");
+                let index = figures * (2 + closes);
+                rows.add(what, (18, index), with_list(list.concat()));
+            }
+        }
+    }
+}
+
+/// What may stand behind a Close: another, a MoveTo with anything behind it, the end.
+fn behind_closes(rows: &mut Rows) {
+    for closes in 1..=3 {
+        let closed = sound(5).repeat(closes);
+        for (name, figure) in [
+            ("a point", start()),
+            ("a line", [start(), sound(2)].concat()),
+        ] {
+            let figure = [figure, closed.clone()].concat();
+            let what = format!("{name} and {closes} Closes");
+            rows.plain(&what, 0, with_list(figure.clone()));
+            let moved = [figure, start()].concat();
+            let what = what + " and a MoveTo";
+            rows.plain(&what, 0, with_list(moved.clone()));
+            for kind in 1..=5 {
+                let list = [moved.clone(), sound(kind)].concat();
+                rows.plain(format!("{what} and kind {kind}"), 0, with_list(list));
+            }
+        }
+    }
+}
+
+/// Lists of 65,536 bytes with a MoveTo behind each Close, or with one lost; and those that end with
+/// a record that draws behind nothing but Closes.
+fn long_lists_of_figures(rows: &mut Rows) {
+    let figure = [start(), sound(2), sound(5)].concat();
+    let point = [start(), sound(5)].concat();
+    let list = [figure.repeat(2340), point.clone()].concat();
+    rows.plain("65,536 bytes of closed lines", 0, with_list(list.clone()));
+    rows.plain(
+        "65,536 bytes of closed points",
+        0,
+        with_list(point.repeat(4096)),
+    );
+    for lost in [1, 1170, 2339] {
+        let at = lost * figure.len();
+        let list = [&list[..at], &list[at + start().len()..]].concat();
+        let what = format!("closed lines, the MoveTo of line {lost} lost");
+        rows.add(what, (18, 3 * lost), with_list(list));
+    }
+    for kind in 2..=4 {
+        let closes = (65_536 - start().len() - sound(kind).len()) / 4;
+        let list = [start(), sound(5).repeat(closes), sound(kind)].concat();
+        let what = format!("{} bytes, kind {kind} behind Closes", list.len());
+        rows.add(what, (18, 1 + closes), with_list(list));
+    }
 }
 
 /// The largest parts that pass and the smallest that do not, and what is no number.

@@ -10,27 +10,34 @@ pub fn table() -> Vec<Boundary> {
     let mut rows = Rows::default();
     pairs(&mut rows);
     within_a_record(&mut rows);
+    within_a_record_behind_a_close(&mut rows);
     front_to_back(&mut rows);
     rows.0
 }
 
-/// Every pair of refusals, the smaller one deciding; of 8 to 12 a list can show one at a time.
+/// All refusals in the order in which they are judged.
+const ORDER: [u8; 14] = [1, 2, 3, 4, 5, 6, 7, 8, 9, 10, 11, 18, 12, 13];
+
+/// Every pair of refusals, the earlier one deciding; of a record's a list can show one at a time.
 fn pairs(rows: &mut Rows) {
-    for first in 1..=12 {
-        for second in first + 1..=13 {
-            if first > 7 && second <= 12 {
+    let is_a_records = |number: u8| matches!(number, 8..=12 | 18);
+    for (at, &first) in ORDER.iter().enumerate() {
+        for &second in &ORDER[at + 1..] {
+            if is_a_records(first) && is_a_records(second) {
                 continue;
             }
             let mut drawing = k1();
-            // The larger fault first: a list that is too long keeps what else is wrong with it.
+            // The later fault first: a list that is too long keeps what else is wrong with it.
             spoil(&mut drawing, second);
             spoil(&mut drawing, first);
-            rows.plain(format!("{first} and {second}"), first, drawing);
+            let index = if first == 18 { 2 } else { 0 };
+            rows.add(format!("{first} and {second}"), (first, index), drawing);
         }
     }
 }
 
-/// Gives K1 the fault of this number, in its first record where it is a record's.
+/// Gives K1 the fault of this number, 18 in its third record, another in its first where it is a
+/// record's.
 fn spoil(drawing: &mut Drawing, number: u8) {
     match number {
         1 => drawing.height = SIDE + 1,
@@ -45,11 +52,14 @@ fn spoil(drawing: &mut Drawing, number: u8) {
         10 => drawing.list[0] = 11,
         11 => drawing.list[2] = 2,
         12 => drawing.list[4..8].copy_from_slice(&f32::NAN.to_le_bytes()),
+        18 => {
+            drawing.list.splice(12..12, record(&Command::Close));
+        }
         _ => drawing.words.truncate(3),
     }
 }
 
-/// The order in one record: a cut header, 9, 10, a cut body, 11, 12.
+/// The order in a first record: a cut header, 9, 10, a cut body, 11, 12.
 fn within_a_record(rows: &mut Rows) {
     let mut first = |what: &str, number: u8, list: &[u8]| {
         let mut drawing = k1();
@@ -69,27 +79,65 @@ fn within_a_record(rows: &mut Rows) {
     first("11 before 12", 11, &line);
     let late = [&line[..], &[0, 0, 9, 0]].concat();
     first("11 before a later 9", 11, &late);
+    let behind = [&record(&Command::Close), &line[..]].concat();
+    first("11 before a later 18", 11, &behind);
+}
+
+/// The order in a later record: a cut header, 9, 10, a cut body, 18, 12. Each record here draws behind
+/// a Close, and one of its points is NaN.
+fn within_a_record_behind_a_close(rows: &mut Rows) {
+    let mut third = |what: &str, number: u8, bytes: &[u8]| {
+        let closed = written(&[Command::MoveTo(Point::ZERO), Command::Close]);
+        let mut drawing = k1();
+        drawing.list = [&closed, bytes].concat();
+        rows.add(what, (number, 2), drawing);
+    };
+    let (zero, nan) = (Point::ZERO, Point::new(0.0, f32::NAN));
+    for command in [
+        Command::LineTo(nan),
+        Command::QuadTo(nan, zero),
+        Command::QuadTo(zero, nan),
+        Command::CurveTo(nan, zero, zero),
+        Command::CurveTo(zero, zero, nan),
+    ] {
+        let whole = record(&command);
+        for length in 1..whole.len() {
+            third("a cut record before 18", 8, &whole[..length]);
+        }
+        let with = |at: usize, byte: u8| [&whole[..at], &[byte], &whole[at + 1..]].concat();
+        third("9 before 18", 9, &with(2, 6));
+        third("9 for the kind's second byte before 18", 9, &with(3, 1));
+        third("10 before 18", 10, &with(0, whole[0] + 1));
+        third("10 for the length's second byte before 18", 10, &with(1, 1));
+        third("18 before 12", 18, &whole);
+        let late = [&whole[..], &[0, 0, 9, 0]].concat();
+        third("18 before a later 9", 18, &late);
+    }
 }
 
 /// Of two faulty records the first is told, whichever numbers they have.
 fn front_to_back(rows: &mut Rows) {
-    let origin = Point::new(0.0, 0.0);
-    let far = Point::new(5000.0, 0.0);
+    let (origin, far) = (Point::ZERO, Point::new(5000.0, 0.0));
     let start = record(&Command::MoveTo(origin));
-    let faults: [(u8, Vec<u8>); 4] = [
-        (9, vec![2, 0, 6, 0]),
-        (10, vec![4, 0, 5, 0, 0, 0]),
-        (12, record(&Command::LineTo(far))),
-        (12, record(&Command::CurveTo(origin, far, origin))),
+    let curve = Command::CurveTo(origin, origin, origin);
+    // Each with the sound records that it begins with.
+    let faults: [(u8, usize, Vec<u8>); 6] = [
+        (9, 0, vec![2, 0, 6, 0]),
+        (10, 0, vec![4, 0, 5, 0, 0, 0]),
+        (12, 0, record(&Command::LineTo(far))),
+        (12, 0, record(&Command::CurveTo(origin, far, origin))),
+        (18, 1, written(&[Command::Close, Command::LineTo(origin)])),
+        (18, 2, written(&[Command::Close, Command::Close, curve])),
     ];
-    for (number, fault) in &faults {
-        for (_, later) in &faults {
+    for (number, own, fault) in &faults {
+        for (_, _, later) in &faults {
             for before in [0, 1, 7] {
                 let sound = written(&vec![Command::LineTo(origin); before]);
                 let mut drawing = k1();
                 drawing.list = [&start[..], &sound, fault, later].concat();
-                let what = format!("{number} at record {}", before + 1);
-                rows.add(what, (*number, before + 1), drawing);
+                let index = 1 + before + own;
+                let what = format!("{number} at record {index}");
+                rows.add(what, (*number, index), drawing);
             }
         }
     }

@@ -149,18 +149,16 @@ mod tests {
     #[test]
     fn what_a_refusal_needs_is_kept() {
         let mut dice = Dice::new(13);
-        let mut tried = 0;
-        while tried < 20 {
-            let drawing = at_a_boundary(&mut dice);
-            let number = driver::outcome(&drawing).number;
-            if number != 12 || drawing.list.len() > 1000 {
-                continue;
-            }
+        for number in [12, 18] {
             let still = |d: &Drawing| driver::outcome(d).number == number;
-            let least = smallest(drawing, Drawing::simpler, still);
-            assert!(least.list.len() <= 40, "{}", least.shown());
-            assert_eq!(sizes(&least), [0; 5]);
-            tried += 1;
+            let calls = (0..20_000).map(|_| at_a_boundary(&mut dice));
+            let mut refused = calls.filter(|d| d.list.len() <= 1000 && still(d));
+            for _ in 0..20 {
+                let drawing = refused.next().expect("enough of this number");
+                let least = smallest(drawing, Drawing::simpler, still);
+                assert!(least.list.len() <= 40, "{}", least.shown());
+                assert_eq!(sizes(&least), [0; 5]);
+            }
         }
     }
 }

@@ -1,7 +1,7 @@
 //! Bands: a label cut into bands, each drawn alone, gives the whole label's rows; over a partition the
 //! cells add up.
 
-use super::calls::{agree_on, drawn, Called, NUMBERS};
+use super::calls::{agree_on, drawn, heading_of, Called};
 use super::{Agreed, Kind, Verdict};
 use compare::drawing::{ordinary, soil, Drawing};
 use compare::driver;
@@ -46,7 +46,7 @@ impl Kind for Bands {
         let whole = drawn(&case.label, Around::Marks)?;
         agree_on(&case.label, &whole, &expected)?;
         if whole.answer.number != 0 {
-            return Ok(NUMBERS[usize::from(expected.number)].into());
+            return Ok(heading_of(expected.number).into());
         }
         let mut cells = 0;
         let mut first = 0;

@@ -6,23 +6,27 @@ use compare::drawing::{Drawing, Way};
 use compare::driver::Outcome;
 use compare::lent::{Around, Lent, BYTE_MARK, WORD_MARK};
 
-/// Headings of a drawing's number.
-pub const NUMBERS: [&str; 14] = [
-    "accepted",
-    "refused 1",
-    "refused 2",
-    "refused 3",
-    "refused 4",
-    "refused 5",
-    "refused 6",
-    "refused 7",
-    "refused 8",
-    "refused 9",
-    "refused 10",
-    "refused 11",
-    "refused 12",
-    "refused 13",
-];
+/// The heading that a number of the rules counts under.
+pub fn heading_of(number: u8) -> &'static str {
+    match number {
+        0 => "accepted",
+        1 => "refused 1",
+        2 => "refused 2",
+        3 => "refused 3",
+        4 => "refused 4",
+        5 => "refused 5",
+        6 => "refused 6",
+        7 => "refused 7",
+        8 => "refused 8",
+        9 => "refused 9",
+        10 => "refused 10",
+        11 => "refused 11",
+        12 => "refused 12",
+        13 => "refused 13",
+        18 => "refused 18",
+        _ => unreachable!("the rules have no number {number}"),
+    }
+}
 
 /// What the port answered and left.
 pub struct Called {

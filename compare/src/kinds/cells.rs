@@ -1,7 +1,7 @@
 //! The cells of a drawing as the port stores them, before they are swept: every row, column, cover and
 //! area in order, as `HeapStorage` holds them.
 
-use super::calls::{agree_on_answers, agree_on_words, answer_of, keeps, NUMBERS};
+use super::calls::{agree_on_answers, agree_on_words, answer_of, heading_of, keeps};
 use super::drawings::SmallDrawings;
 use super::{Agreed, Kind, Verdict};
 use crate::face;
@@ -110,7 +110,7 @@ pub fn judged(case: &Drawing) -> Verdict {
                 _ => case.words.clone(),
             };
             agree_on_words(words.part(), &left)?;
-            Ok(NUMBERS[usize::from(refusal.number)].into())
+            Ok(heading_of(refusal.number).into())
         }
         Ok(drawn) => {
             let theirs = answer_of(0, 0, drawn.records, drawn.cells.len());
@@ -118,7 +118,7 @@ pub fn judged(case: &Drawing) -> Verdict {
             let cells = pool::walked(words.part(), case.rows(), drawn.cells.len())?;
             agree_on_cells(&cells, &drawn.cells)?;
             Ok(Agreed {
-                heading: NUMBERS[0],
+                heading: heading_of(0),
                 parts: cells.len(),
             })
         }

@@ -1,7 +1,7 @@
 //! Whole drawings: number, index, counts, every byte of the mask and every word of the workspace, as
 //! the reading and zeno have them.
 
-use super::calls::{agree_on, drawn, NUMBERS};
+use super::calls::{agree_on, drawn, heading_of};
 use super::{Agreed, Kind, Verdict};
 use compare::boundaries::Boundary;
 use compare::drawing::{soil, Drawing};
@@ -51,7 +51,7 @@ pub fn judged(case: &Drawing) -> Verdict {
     agree_on(case, &called, &expected)?;
     let accepted = expected.number == 0;
     Ok(Agreed {
-        heading: NUMBERS[usize::from(expected.number)],
+        heading: heading_of(expected.number),
         parts: if accepted {
             case.width * case.rows()
         } else {

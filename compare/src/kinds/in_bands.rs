@@ -1,7 +1,7 @@
 //! Labels drawn in bands by one call: number, index, counts, every byte of the mask and every word of
 //! the workspace, as the reading and zeno have them for the label and for the places of each band.
 
-use super::calls::{agree_on, drawn_in, NUMBERS};
+use super::calls::{agree_on, drawn_in, heading_of};
 use super::{Agreed, Kind, Verdict};
 use compare::drawing::{any_step, at_a_boundary, Drawing, Way};
 use compare::driver::{self, Outcome};
@@ -69,7 +69,7 @@ fn heading(label: &Drawing, step: usize, expected: &Outcome) -> &'static str {
     match expected.number {
         0 if room().is_err() => "accepted, though 13 at once",
         13 if first_band_has_room(label, step) => "refused 13 for a later band",
-        number => NUMBERS[usize::from(number)],
+        number => heading_of(number),
     }
 }
 

@@ -1,7 +1,7 @@
 //! Bounds and placements of lists: refusals as the reading has them, everything else zeno's bit for
 //! bit.
 
-use super::calls::{keeps, NUMBERS};
+use super::calls::{heading_of, keeps};
 use super::{agree, Kind, Verdict};
 use crate::face::{self, Answer};
 use compare::driver;
@@ -39,7 +39,7 @@ impl Kind for Lists {
             Lists::Placement => judged_placement(case, list.part())?,
         };
         keeps(&list, "the list")?;
-        Ok(NUMBERS[usize::from(number)].into())
+        Ok(heading_of(number).into())
     }
 
     fn simpler<'a>(&self, case: &'a Placing) -> Candidates<'a, Placing> {

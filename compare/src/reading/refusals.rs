@@ -12,7 +12,7 @@ pub struct Refusal {
     pub index: usize,
 }
 
-/// A call that 1 to 12 let pass: the commands of its list, in order.
+/// A call that 1 to 12 and 18 let pass: the commands of its list, in order.
 pub type Accepted = Vec<Command>;
 
 /// The largest width and height.
@@ -24,22 +24,22 @@ pub const REACH: i64 = 4096;
 /// The most places of a pool.
 const PLACES: usize = 16_384;
 
-/// Refusals 1 to 12 of a drawing, in their order.
+/// Refusals 1 to 12 and 18 of a drawing, in their order.
 pub fn judge(drawing: &Drawing) -> Result<Accepted, Refusal> {
     judge_sizes(drawing)?;
     judge_floats(&drawing.transform, drawing.offset)?;
     judge_list(&drawing.list, &drawing.transform, drawing.offset)
 }
 
-/// Refusals 6 to 12 of bounds, as for an offset of zero.
+/// Refusals 6 to 12 and 18 of bounds, as for an offset of zero.
 pub fn judge_bounds(bytes: &[u8], transform: &Transform) -> Result<Accepted, Refusal> {
     let zero = Point::new(0.0, 0.0);
     judge_floats(transform, zero)?;
     judge_list(bytes, transform, zero)
 }
 
-/// Refusals 6 to 12 of a placement. An empty list is 12 with index 0 where the offset by itself
-/// fails the point rule.
+/// Refusals 6 to 12 and 18 of a placement. An empty list is 12 with index 0 where the offset by
+/// itself fails the point rule.
 pub fn judge_placement(
     bytes: &[u8],
     transform: &Transform,
@@ -116,12 +116,11 @@ fn judge_list(bytes: &[u8], transform: &Transform, offset: Point) -> Result<Acce
     let mut commands = Vec::new();
     let mut at = 0;
     loop {
-        let index = commands.len();
         match record_at(&bytes[at..]) {
             Record::End => return Ok(commands),
-            Record::Faulty(number) => return refused(number, index),
+            Record::Faulty(number) => return refused(number, commands.len()),
             Record::Command(command, taken) => {
-                judge_command(&command, index, transform, offset)?;
+                judge_command(&command, &commands, transform, offset)?;
                 commands.push(command);
                 at += taken;
             }
@@ -129,15 +128,20 @@ fn judge_list(bytes: &[u8], transform: &Transform, offset: Point) -> Result<Acce
     }
 }
 
-/// 11, then 12 for each of the command's points.
+/// 11 and 18 by the commands before, then 12 for each of the command's points.
 fn judge_command(
     command: &Command,
-    index: usize,
+    before: &[Command],
     transform: &Transform,
     offset: Point,
 ) -> Result<(), Refusal> {
+    let index = before.len();
     if index == 0 && !matches!(command, Command::MoveTo(_)) {
         return refused(11, 0);
+    }
+    let draws = !matches!(command, Command::MoveTo(_) | Command::Close);
+    if draws && before.last() == Some(&Command::Close) {
+        return refused(18, index);
     }
     let (_, points) = list::parts(command);
     if points
