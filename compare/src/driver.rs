@@ -66,8 +66,7 @@ pub fn drawn(drawing: &Drawing) -> Result<Drawn, Refusal> {
 /// whole label.
 pub fn drawn_in(drawing: &Drawing, way: Way) -> Result<Drawn, Refusal> {
     let path = reading::judge(drawing)?;
-    let label = label_of(drawing, &path, false, drawing.width);
-    let (whole, cells) = oracle::painted_cells(&label).expect("an accepted label is within reach");
+    let (whole, cells) = painted(drawing, &path);
     let cells = cells_of_band(cells, drawing.first, drawing.end);
     for band in way.bands(drawing.rows()) {
         let rows = band.len();
@@ -78,6 +77,13 @@ pub fn drawn_in(drawing: &Drawing, way: Way) -> Result<Drawn, Refusal> {
         records: path.len(),
         cells,
     })
+}
+
+/// zeno's label of a call with this path in the place of its own, whose points must pass: height rows
+/// of width bytes, not up, and every cell.
+pub fn painted(drawing: &Drawing, path: &[Command]) -> (Vec<u8>, Vec<CellAt>) {
+    let label = label_of(drawing, path, false, drawing.width);
+    oracle::painted_cells(&label).expect("an accepted label is within reach")
 }
 
 /// How many of the cells, rows rising, lie in these rows.

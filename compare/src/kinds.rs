@@ -9,6 +9,7 @@ pub mod drawings;
 pub mod filled;
 pub mod in_bands;
 pub mod lists;
+pub mod lost_moves;
 pub mod maps;
 pub mod placements;
 pub mod stores;

@@ -5,12 +5,14 @@ mod cancelling;
 mod damaged;
 mod filled;
 mod large;
+mod lost;
 mod small;
 mod text;
 
 pub use damaged::damaged;
 pub use filled::{full_rows, Figure};
 pub use large::{large_curves, thin_bar};
+pub use lost::without_moves_to_the_start;
 pub use small::{Shape, Small, SMALL};
 pub use text::{address, ADDRESS};
 

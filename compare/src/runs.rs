@@ -3,7 +3,7 @@
 use std::time::Instant;
 
 use crate::kinds::{bands::Bands, boxes::Boxes, lists::Lists, maps, placements::Placements};
-use crate::kinds::{cells, drawings, filled, in_bands, run, stores, Kind};
+use crate::kinds::{cells, drawings, filled, in_bands, lost_moves, run, stores, Kind};
 use compare::boundaries;
 use compare::drawing::{
     at_a_boundary, at_the_cap, at_the_limits, every_order, in_bands_at_the_cap,
@@ -20,6 +20,7 @@ use compare::stores::{
 use drawings::{Boundaries, Drawings, SmallDrawings};
 use filled::Filled;
 use in_bands::InBands;
+use lost_moves::LostMoves;
 use stores::Stores;
 
 pub const USAGE: &str = "compare [--seed S] [--scale N] [--share N] [--only KIND]";
@@ -219,7 +220,8 @@ fn drawings(run: &mut Run) -> Result<(), String> {
         name: "drawings of addresses",
         make: drawings::of_an_address,
     };
-    run.scaled(&addresses, 500)
+    run.scaled(&addresses, 500)?;
+    run.scaled(&LostMoves, 40_000)
 }
 
 fn refusals(run: &mut Run) -> Result<(), String> {
