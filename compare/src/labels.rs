@@ -384,6 +384,29 @@ fn zeno_goes_on_behind_a_close() {
     assert_eq!((painted.mask, painted.cells), (drawn.mask, drawn.cells));
 }
 
+/// The inputs of docs/DIFFERENCES.md: a triangle behind a Close, and two squares that a bar joins
+/// where the second has lost its MoveTo.
+#[test]
+fn a_lost_move_joins_two_squares() {
+    let lines = |points: &[(f32, f32)]| -> Vec<Command> {
+        let to = |&(x, y): &(f32, f32)| Command::LineTo(at(x, y));
+        points.iter().map(to).collect()
+    };
+    let mask = |path: &[Command], width| oracle::painted(&label(path, width, 1)).unwrap().mask;
+    let point = vec![Command::MoveTo(at(0.0, 0.0)), Command::Close];
+    let triangle = [point, lines(&[(1.0, 1.0), (0.0, 1.0)])].concat();
+    assert_eq!(mask(&triangle, 1), [128]);
+    assert_eq!(refusal(&Drawing::plain(&triangle, 1, 1)), (18, 2));
+    let square = rectangle(0.0, 0.0, 1.0, 1.0);
+    let second = lines(&[(3.0, 0.0), (3.0, 1.0), (2.0, 1.0)]);
+    let joined = [&square[..], &second].concat();
+    assert_eq!(mask(&joined, 3), [255, 191, 255]);
+    assert_eq!(refusal(&Drawing::plain(&joined, 3, 1)), (18, 5));
+    let whole = [&square[..], &[Command::MoveTo(at(2.0, 0.0))], &second].concat();
+    assert_eq!(mask(&whole, 3), [255, 0, 255]);
+    assert_eq!(drawn(&whole, 3, 1).mask, [255, 0, 255]);
+}
+
 /// The largest label: a pixel in each corner, and a rectangle from one end of the point rule to the
 /// other.
 #[test]
