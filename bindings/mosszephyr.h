@@ -39,8 +39,8 @@
  *
  * MoveTo (1,1) is 0A 00 01 00 00 00 80 3F 00 00 80 3F; Close is 02 00 05 00. The first record is a
  * MoveTo. A list of no bytes is accepted and draws nothing. A subpath that is still open is closed
- * by the next MoveTo, or by the end. Directly behind a Close stands a MoveTo, another Close, or the
- * end: what is drawn after it begins with a MoveTo.
+ * by the next MoveTo, or by the end. Directly after a Close stands a MoveTo, another Close, or the
+ * end: what is drawn then begins with a MoveTo.
  *
  * A point (x, y) becomes x' = (x*xx + y*yx) + tx, y' = (x*xy + y*yy) + ty, every product and every
  * sum rounded to a float, and is moved by the offset. Both parts must then be finite and, times 256
@@ -70,7 +70,7 @@
  *      11  the list begins with another record than a MoveTo
  *      12  the point rule refuses a point
  *      13  the distinct places (column, row) that are stored outnumber the pool's
- *      18  a LineTo, QuadTo or CurveTo stands directly behind a Close
+ *      18  a LineTo, QuadTo or CurveTo stands directly after a Close
  *
  *
  * What is asked of the caller

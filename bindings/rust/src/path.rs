@@ -22,7 +22,7 @@ use crate::{commands, Command, Commands, Point};
 /// must be a MoveTo, and the list may have 65,536 bytes. An empty path is valid. A subpath that is
 /// still open is closed by the next MoveTo, or by the end.
 ///
-/// What is drawn must begin with a MoveTo, also behind a Close: directly behind that stands a MoveTo,
+/// What is drawn must begin with a MoveTo, also after a Close: directly after that stands a MoveTo,
 /// another Close, or nothing. A `Path` does not look back at what it holds, so its methods write a
 /// line or a curve there too, and the drawing refuses it with 18:
 ///
@@ -115,7 +115,7 @@ impl Path {
         commands(self)
     }
 
-    /// Adds a command, whatever stands before it: see [`Path`] for what is refused behind a close.
+    /// Adds a command, whatever stands before it: see [`Path`] for what is refused after a close.
     pub fn push(&mut self, command: Command) -> &mut Path {
         match command {
             Command::MoveTo(p) => self.record(Kind::MoveTo, &[p]),
@@ -131,17 +131,17 @@ impl Path {
         self.push(Command::MoveTo(p.into()))
     }
 
-    /// A line to a point; refused with 18 directly behind a close.
+    /// A line to a point; refused with 18 directly after a close.
     pub fn line_to(&mut self, p: impl Into<Point>) -> &mut Path {
         self.push(Command::LineTo(p.into()))
     }
 
-    /// A quadratic curve with a control point to a point; refused with 18 directly behind a close.
+    /// A quadratic curve with a control point to a point; refused with 18 directly after a close.
     pub fn quad_to(&mut self, control: impl Into<Point>, p: impl Into<Point>) -> &mut Path {
         self.push(Command::QuadTo(control.into(), p.into()))
     }
 
-    /// A cubic curve with two control points to a point; refused with 18 directly behind a close.
+    /// A cubic curve with two control points to a point; refused with 18 directly after a close.
     pub fn curve_to(
         &mut self,
         control1: impl Into<Point>,

@@ -20,7 +20,7 @@ use std::fmt;
 /// | 11 | the list begins with another record than a MoveTo |
 /// | 12 | the point rule refuses a point |
 /// | 13 | the distinct places (column, row) that are stored outnumber the pool's |
-/// | 18 | a LineTo, QuadTo or CurveTo stands directly behind a Close |
+/// | 18 | a LineTo, QuadTo or CurveTo stands directly after a Close |
 ///
 /// The point rule: transformed and moved by the offset, both parts are finite and, times 256 and
 /// cut toward zero, at most 1,048,576 either way: 4096.0034 passes and 4096.00390625 fails.
@@ -72,7 +72,7 @@ pub enum Refusal {
     Point(Option<At>),
     /// 13: more places than the pool holds.
     Room,
-    /// 18: a LineTo, QuadTo or CurveTo directly behind a Close, with no MoveTo between.
+    /// 18: a LineTo, QuadTo or CurveTo directly after a Close, with no MoveTo between.
     AfterClose(At),
     /// A number that this version of the crate has no words for, from a library newer than it.
     Unknown(u32),
