@@ -90,7 +90,7 @@ pub record EveryCall (drawing : Drawing) (Full : Label → ℕ → List Command 
 -- no command of a path, behind the command `prior`, draws directly after Close
 unfoldable pub Apart : Option Command → List Command → Type 0
 Apart prior [] = Unit {0}
-Apart prior (c ∷ cs) = (afterClose prior && draws c ≡ false) × Apart (some c) cs
+Apart prior (c ∷ cs) = ((afterClose prior && draws c) ≡ false) × Apart (some c) cs
 
 abbrev pub TooMany : Label → ℕ → List Command → Type 0  -- drawn at once, with so many words
 TooMany l words cs = pool l words < distinct (cellsOf l cs)
