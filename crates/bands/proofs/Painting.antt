@@ -11,8 +11,6 @@ use lib.ListN.{length, getD, take, drop, length-drop}
 use lib.Seq.{length-take-le, getD-take, getD-drop}
 use borrow.Author.Tests.{ltb-false}
 use borrow.Rule.Slice.PartMut.{putMid}
-use Rattle.storage.specs.declared.Kept.{Kept}
-use Rattle.storage.specs.declared.Kept.the-variants.{Cells, Full}
 use Rattle.storage.specs.Deposits.{distinct}
 use Rattle.storage.specs.Cells.{Holds}
 use Rattle.command.specs.declared.Command.{Command}
@@ -20,9 +18,11 @@ use Rattle.sweep.specs.Masks.{rowAt, Swept}
 use Rattle.sweep.specs.Pixels.{pixel}
 use Rattle.sweep.proofs.Lines.{mid-before, mid-inside, mid-behind, mid-long}
 use Rattle.sweep.proofs.Mask.{mask-is, mask-by-bytes}
+use Rattle.path.specs.declared.Pool.{Pool}
+use Rattle.path.specs.declared.Pool.the-variants.{Cells, Full}
 use Rattle.label.specs.declared.Label.{Label}
 use Rattle.label.specs.Checks.{mostPixels, mostPitch, rows}
-use Rattle.label.specs.Draw.{poolOf, paintedOf, logOf, tooMany}
+use Rattle.label.specs.Draw.{poolOf, paintedOf, logOf, tooMany, roomFor}
 use Rattle.label.specs.Inking.{Sized, Lent, Poured}
 use Rattle.claims.specs.OldContents.{spotOf}
 use Rattle.claims.specs.Bands.{bandOf}
@@ -34,15 +34,15 @@ use Rattle.bands.proofs.Rows.{one-band, from-bottom, line-in, row-line}
 
 -- ---- one band
 -- a pool that is full was too small
-pub not-poured : (b : Label) (s words words′ mask : List ℕ) (k : Kept) → k ≡ Full → Poured b s words words′ k → BandPainted b s (length words) mask mask
-not-poured b s words words′ mask k f P = record {
+pub not-poured : (b : Label) (s words words′ mask : List ℕ) (k : Pool) {i : ℕ} → k ≡ Full i → Poured b s words words′ k → BandPainted b s (length words) mask mask
+not-poured b s words words′ mask k {i} f P = record {
   painted = λ cs e room.
       absurd
-      (let more : poolOf b (length words) < distinct (logOf b cs) = rw f at (P .stored cs e) in
-      omega arith);
+      (let full : (poolOf b (length words) < distinct (logOf b cs)) × (i ≡ roomFor b (length words) cs) = rw f at (P .stored cs e) in
+      omega (arith, full .0));
 }
 
-pub band-swept : (b : Label) → Sized b → (s words words′ mask mask′ : List ℕ) (k : Kept) {n : ℕ} → k ≡ Cells n → Poured b s words words′ k
+pub band-swept : (b : Label) → Sized b → (s words words′ mask mask′ : List ℕ) (k : Pool) {n : ℕ} → k ≡ Cells n → Poured b s words words′ k
     → Swept words′ mask mask′ (rows b) n (b .width) (b .fill) (b .up) (b .pitch) → BandPainted b s (length words) mask mask′
 unfolding paintedOf
 band-swept b z s words words′ mask mask′ k {n} f P S = record {

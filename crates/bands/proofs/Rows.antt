@@ -10,9 +10,9 @@ use Rattle.sweep.specs.Masks.{rowAt}
 use Rattle.label.specs.declared.Label.{Label}
 use Rattle.label.specs.Checks.{rows}
 use Rattle.label.specs.Inking.{Sized}
-use Rattle.label.specs.Draw.{tooMany}
+use Rattle.label.specs.Draw.{tooMany, roomFor}
 use Rattle.claims.specs.Bands.{bandOf}
-use Rattle.bands.specs.InBands.{bandEnd, tooManyFrom}
+use Rattle.bands.specs.InBands.{bandEnd, tooManyFrom, roomFrom}
 use Rattle.bands.specs.Steps.{lineOf}
 
 -- ---- rule 13, band by band
@@ -34,6 +34,18 @@ module _ (l : Label) (step words : ℕ) (cs : List Command) (at : ℕ) where
       let e : n ≡ suc n - 1 = omega arith in
       rw (tooManyFrom, lt-ltb at (l .end) h)
       (ap (λ (k : ℕ). tooMany (bandOf l at (bandEnd step at (l .end))) words cs || tooManyFrom k step l words cs (bandEnd step at (l .end))) e)
+
+  -- of the record that it names: the band's own, or that of a band behind it
+  pub one-room : at < l .end → (fuel : ℕ) → 0 < fuel
+      → let own = bandOf l at (bandEnd step at (l .end)) in
+      roomFrom fuel step l words cs at ≡ cond (tooMany own words cs) (roomFor own words cs) (roomFrom (fuel - 1) step l words cs (bandEnd step at (l .end)))
+  unfolding roomFrom
+  one-room h zero g = absurd (omega arith)
+  one-room h (suc n) g =
+      let own = bandOf l at (bandEnd step at (l .end)) in
+      let e : n ≡ suc n - 1 = omega arith in
+      rw (roomFrom, lt-ltb at (l .end) h)
+      (ap (λ (k : ℕ). cond (tooMany own words cs) (roomFor own words cs) (roomFrom k step l words cs (bandEnd step at (l .end)))) e)
 
 -- ---- sizes
 -- the line of row y from the bottom of [first, end)

@@ -3,14 +3,15 @@ use Prim.Native.Nat.{ℕ, zero, suc, _*_, _-_, _≤_, _<_, max}
 use mathlib.Core.Path.{_≡_, refl, sym, ap, _∙_}
 use mathlib.Core.Bool.{Bool, true, false}
 use mathlib.Core.List.{List}
+use mathlib.Core.Option.{Option}
 use native.Mathlib.Omega.{arith}
 use lib.ListN.{length, replicate}
 use lib.Dec.{ltb}
 use borrow.Author.Tests.{ltb-true, ltb-false, le-ltb}
-use Rattle.storage.specs.declared.Kept.{Kept}
-use Rattle.storage.specs.declared.Kept.the-variants.{Cells, Full}
 use Rattle.storage.specs.Deposits.{perRow, distinct}
 use Rattle.command.specs.declared.Command.{Command}
+use Rattle.path.specs.declared.Pool.{Pool}
+use Rattle.path.specs.declared.Pool.the-variants.{Cells, Full}
 use Rattle.path.specs.declared.Refusal.the-variants as refusal
 use Rattle.path.specs.Reading.{path}
 use Rattle.label.specs.declared.Label.{Label}
@@ -24,20 +25,20 @@ use Rattle.claims.specs.Parts.{band}
 use Rattle.claims.specs.Bands.{bandOf}
 use Rattle.claims.proofs.Parts.{distinct-part}
 use Rattle.claims.proofs.Draws.{Accepted, accepted, draws}
-use Rattle.bands.specs.InBands.{bandEnd, tooManyFrom, tooManyInBand, drawInBandsOf, AsAtOnce}
+use Rattle.bands.specs.InBands.{bandEnd, tooManyFrom, tooManyInBand, ranOutInBand, drawInBandsOf, AsAtOnce}
 use Rattle.bands.specs.Steps.{Counted, Painted}
 use Rattle.bands.proofs.Cells.{sub-log}
 use Rattle.bands.proofs.Rows.{none-left, none-behind, one-band}
 
 -- ---- the outcome of an accepted list
 module _ (l : Label) (step records : ℕ) (s mask words : List ℕ) where
-  pub inked-full : (ws′ ws″ : List ℕ) → ws″ ≡ replicate (length ws′) 0 → length ws′ ≡ length words → (k : Kept) → k ≡ Full → Counted l step s (length words) k
-      → Inked (tooManyInBand step l (length words)) l records s mask words (outcome (Refused refusal.Full 0) mask ws″)
+  pub inked-full : (ws′ ws″ : List ℕ) → ws″ ≡ replicate (length ws′) 0 → length ws′ ≡ length words → (k : Pool) (i : ℕ) → k ≡ Full i → Counted l step s (length words) k
+      → Inked (ranOutInBand step l (length words)) l records s mask words (outcome (Refused refusal.Full i) mask ws″)
   unfolding inked
-  inked-full ws′ ws″ e long k f C = record { rule = λ cs r m. rw (C .full f cs r, e, long) }
+  inked-full ws′ ws″ e long k i f C = record { rule = λ cs r m. rw (C .full i f cs r, C .named i f cs r, e, long) }
 
-  pub inked-cells : (ws′ ws″ mask′ : List ℕ) → ws″ ≡ replicate (length ws′) 0 → length ws′ ≡ length words → (k : Kept) (n : ℕ) → k ≡ Cells n → Counted l step s (length words) k
-      → Painted l step s (length words) mask mask′ → Inked (tooManyInBand step l (length words)) l records s mask words (outcome (Drawn records n) mask′ ws″)
+  pub inked-cells : (ws′ ws″ mask′ : List ℕ) → ws″ ≡ replicate (length ws′) 0 → length ws′ ≡ length words → (k : Pool) (n : ℕ) → k ≡ Cells n → Counted l step s (length words) k
+      → Painted l step s (length words) mask mask′ → Inked (ranOutInBand step l (length words)) l records s mask words (outcome (Drawn records n) mask′ ws″)
   unfolding inked
   inked-cells ws′ ws″ mask′ e long k n f C P = record {
     rule = λ cs r m. let fit = C .fit n f cs r in rw (fit, e, long, m, C .counted n f cs r, P .painted cs r fit);
@@ -69,7 +70,7 @@ module _ (l : Label) (z : Sized l) (cs : List Command) (step words : ℕ) (posit
   all-fit = fit-from (rows l) (l .first) (omega arith)
 
 -- ---- at once and in bands
-pub bands-are : (step : ℕ) (l : Label) (s mask words : List ℕ) → drawBy (tooManyInBand (max 1 step) l (length words)) l s mask words ≡ drawInBandsOf step l s mask words
+pub bands-are : (step : ℕ) (l : Label) (s mask words : List ℕ) → drawBy (ranOutInBand (max 1 step) l (length words)) l s mask words ≡ drawInBandsOf step l s mask words
 unfolding drawInBandsOf
 bands-are step l s mask words = refl
 
@@ -80,10 +81,10 @@ module _ (step : ℕ) (l : Label) (s mask words : List ℕ) (records cells : ℕ
   some : 0 < max 1 step
   some = omega arith
 
-  abbrev full : List Command → Bool
-  full = tooManyInBand (max 1 step) l (length words)
+  abbrev full : List Command → Option ℕ
+  full = ranOutInBand (max 1 step) l (length words)
 
-  is-fit : full (was .cs) ≡ false
+  is-fit : tooManyInBand (max 1 step) l (length words) (was .cs) ≡ false
   is-fit = all-fit l (fitting l (length s) (length mask) (length words) (was .fine) .sized) (was .cs) (max 1 step) (length words) some (was .room)
 
   inks : inked (full (was .cs)) l mask words (was .cs) ≡ outcome (Drawn (length (was .cs)) (distinct (logOf l (was .cs)))) (paintedOf l (logOf l (was .cs)) mask) (wiped words)
@@ -99,6 +100,6 @@ pub at-once : (step : ℕ) (l : Label) (s mask words : List ℕ) → AsAtOnce (d
 at-once step l s mask words = record { same = same-outcome step l s mask words }
 
 -- both parts of the promise
-pub promised : (step : ℕ) (l : Label) (s mask words : List ℕ) (o : Outcome) → o ≡ drawBy (tooManyInBand (max 1 step) l (length words)) l s mask words
+pub promised : (step : ℕ) (l : Label) (s mask words : List ℕ) (o : Outcome) → o ≡ drawBy (ranOutInBand (max 1 step) l (length words)) l s mask words
     → (o ≡ drawInBandsOf step l s mask words) × AsAtOnce (drawOf l s mask words) o
 promised step l s mask words o e = let d = e ∙ bands-are step l s mask words in (d, rw d (at-once step l s mask words))

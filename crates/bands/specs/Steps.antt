@@ -3,16 +3,17 @@ use Prim.Native.Nat.{ℕ, _-_, _*_, _≤_}
 use mathlib.Core.Path.{_≡_}
 use mathlib.Core.Bool.{true, false, cond}
 use mathlib.Core.List.{List}
-use Rattle.storage.specs.declared.Kept.{Kept}
-use Rattle.storage.specs.declared.Kept.the-variants.{Cells, Full}
+use lib.ListN.{length}
 use Rattle.storage.specs.Deposits.{distinct}
 use Rattle.storage.specs.Answers.{mostCells}
 use Rattle.command.specs.declared.Command.{Command}
+use Rattle.path.specs.declared.Pool.{Pool}
+use Rattle.path.specs.declared.Pool.the-variants.{Cells, Full}
 use Rattle.path.specs.Reading.{path, readList}
 use Rattle.label.specs.declared.Label.{Label}
 use Rattle.label.specs.Checks.{mostPixels}
 use Rattle.label.specs.Draw.{poolOf, paintedOf, logOf}
-use Rattle.bands.specs.InBands.{tooManyInBand}
+use Rattle.bands.specs.InBands.{tooManyInBand, roomInBand}
 
 -- the line of the label's mask on which the band [first, end) begins
 abbrev pub lineOf : Label → ℕ → ℕ → ℕ
@@ -22,9 +23,12 @@ lineOf l first end = cond (l .up) (l .end - end) (first - l .first)
 abbrev pub Reads : Label → List ℕ → List Command → Type 0
 Reads l s cs = readList (l .transform) (l .offset) s ≡ path cs
 
--- of an accepted list: full exactly when a band has too many; else the count is that of the label's distinct places
-pub record Counted (l : Label) (step : ℕ) (s : List ℕ) (words : ℕ) (r : Kept) : Type 0 where
-  pub full : r ≡ Full → (cs : List Command) → Reads l s cs → tooManyInBand step l words cs ≡ true
+-- of an accepted list: full exactly when a band has too many, with the record; else the count is that of the label's
+-- distinct places
+pub record Counted (l : Label) (step : ℕ) (s : List ℕ) (words : ℕ) (r : Pool) : Type 0 where
+  pub full : (i : ℕ) → r ≡ Full i → (cs : List Command) → Reads l s cs → tooManyInBand step l words cs ≡ true
+  pub named : (i : ℕ) → r ≡ Full i → (cs : List Command) → Reads l s cs → i ≡ roomInBand step l words cs
+  pub early : (i : ℕ) → r ≡ Full i → i ≤ length s
   pub fit : (n : ℕ) → r ≡ Cells n → (cs : List Command) → Reads l s cs → tooManyInBand step l words cs ≡ false
   pub counted : (n : ℕ) → r ≡ Cells n → (cs : List Command) → Reads l s cs → n ≡ distinct (logOf l cs)
   pub few : (n : ℕ) → r ≡ Cells n → n ≤ mostCells * mostPixels

@@ -3,17 +3,18 @@
 use label::Answer;
 use label::Label;
 use path::Judged;
+use path::Pool;
 use path::Refusal;
 use path::Verdict;
-use storage::Kept;
 ghost use mathlib.Core.Path.{_≡_};
 ghost use Prim.Native.Nat.{_+_, _*_, _-_, _<_, _≤_, min, max};
 ghost use lib.ListN.{length};
+ghost use Rattle.path.specs.Inputs.{mostBytes};
 ghost use Rattle.label.specs.Checks.{rows};
 ghost use Rattle.label.specs.Draw.{outcome, drawOf};
 ghost use Rattle.label.specs.Inking.{Sized, Lent, Inked};
 ghost use Rattle.claims.specs.Bands.{bandOf};
-ghost use Rattle.bands.specs.InBands.{bandEnd, tooManyInBand, drawInBandsOf, AsAtOnce};
+ghost use Rattle.bands.specs.InBands.{bandEnd, ranOutInBand, drawInBandsOf, AsAtOnce};
 ghost use Rattle.bands.specs.Steps.{lineOf, Counted, BandPainted, Painted};
 
 // A band has a row at least.
@@ -68,8 +69,8 @@ fn line_of(l: Label, first: usize, end: usize) -> usize
     first - l.first
 }
 
-// The cells of the bands together, or that one of them is too many for its pool. Nothing is painted.
-fn count(list: &[u8], l: Label, step: usize, words: &mut [u32]) -> Kept
+// The cells of the bands together, or that one of them is too many for its pool, and at which record. Nothing is painted.
+fn count(list: &[u8], l: Label, step: usize, words: &mut [u32]) -> Pool
     requires { ⌜ Sized l ⌝ ∗ ⌜ rows l ≤ length (now words) ⌝ ∗ ⌜ 0 < step ⌝ }
     ensures { λ r. ⌜ Counted l step (now (list .entry)) (length (now (words .entry))) r ⌝ }
 {
@@ -78,16 +79,16 @@ fn count(list: &[u8], l: Label, step: usize, words: &mut [u32]) -> Kept
     while at < l.end {
         let next = band_end(at, l.end, step);
         match path::pour(list, l.transform, l.offset, l.width, at, next, words) {
-            Kept::Full => {
-                return Kept::Full;
+            Pool::Full(i) => {
+                return Pool::Full(i);
             }
-            Kept::Cells(n) => {
+            Pool::Cells(n) => {
                 total += n;
             }
         }
         at = next;
     }
-    Kept::Cells(total)
+    Pool::Cells(total)
 }
 
 // Paints one band into its part of the mask.
@@ -98,8 +99,8 @@ fn paint_band(list: &[u8], b: Label, mask: &mut [u8], words: &mut [u32])
     let rows = b.end - b.first;
     let fill = b.fill;
     match path::pour(list, b.transform, b.offset, b.width, b.first, b.end, words) {
-        Kept::Full => {}
-        Kept::Cells(n) => sweep::sweep(words, rows, n, b.width, fill, b.up, b.pitch, mask),
+        Pool::Full(_) => {}
+        Pool::Cells(n) => sweep::sweep(words, rows, n, b.width, fill, b.up, b.pitch, mask),
     }
 }
 
@@ -127,18 +128,18 @@ fn ink(
     mask: &mut [u8],
     words: &mut [u32],
 ) -> Answer
-    requires { ⌜ Sized l ⌝ ∗ ⌜ Lent l (length (now mask)) (length (now words)) ⌝ ∗ ⌜ 0 < step ⌝ }
-    ensures { λ r. ⌜ Inked (tooManyInBand step l (length (now (words .entry)))) l records (now (list .entry)) (now (mask .entry)) (now (words .entry)) (outcome r (now (mask .exit)) (now (words .exit))) ⌝ }
+    requires { ⌜ Sized l ⌝ ∗ ⌜ Lent l (length (now mask)) (length (now words)) ⌝ ∗ ⌜ 0 < step ⌝ ∗ ⌜ length (now list) ≤ mostBytes ⌝ }
+    ensures { λ r. ⌜ Inked (ranOutInBand step l (length (now (words .entry)))) l records (now (list .entry)) (now (mask .entry)) (now (words .entry)) (outcome r (now (mask .exit)) (now (words .exit))) ⌝ }
 {
     match count(list, l, step, words) {
-        Kept::Full => {
+        Pool::Full(i) => {
             storage::wipe(words);
             Answer::Refused {
                 why: Refusal::Full,
-                record: 0,
+                record: i as u32,
             }
         }
-        Kept::Cells(n) => {
+        Pool::Cells(n) => {
             paint(list, l, step, mask, words);
             storage::wipe(words);
             Answer::Drawn {

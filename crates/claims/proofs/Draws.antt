@@ -3,6 +3,7 @@ use Prim.Native.Nat.{ℕ, _≤_, _<_}
 use mathlib.Core.Path.{_≡_, refl, sym, _∙_}
 use mathlib.Core.Bool.{Bool, true, false}
 use mathlib.Core.List.{List, [], _∷_}
+use mathlib.Core.Option.{Option}
 use lib.ListN.{length}
 use borrow.Author.Tests.{lt-ltb, le-ltb, ltb-true, ltb-false}
 use Rattle.storage.specs.Deposits.{distinct}
@@ -24,7 +25,7 @@ use Rattle.label.specs.declared.Answer.the-variants.{Drawn, Refused}
 use Rattle.path.specs.declared.Refusal.{Refusal}
 use Rattle.path.specs.declared.Refusal.the-variants.{Full}
 use Rattle.label.specs.Checks.{checkedOf}
-use Rattle.label.specs.Draw.{outcome, poolOf, paintedOf, wiped, logOf, tooMany, inked, drawOf}
+use Rattle.label.specs.Draw.{outcome, poolOf, paintedOf, wiped, logOf, tooMany, roomFor, ranOut, inked, drawOf}
 use Rattle.label.proofs.Drawing.{answered, refused-not-drawn, draw-is, by-refused, by-path, turned, drawn-from}
 use Rattle.claims.specs.Ink.{AllReach}
 
@@ -61,17 +62,17 @@ pub record Accepted (l : Label) (s : List ℕ) (mask words records cells : ℕ) 
 
 module _ (l : Label) (mask words : List ℕ) (cs : List Command) where
   enough : distinct (logOf l cs) ≤ poolOf l (length words)
-      → inked (tooMany l (length words) cs) l mask words cs ≡ outcome (Drawn (length cs) (distinct (logOf l cs))) (paintedOf l (logOf l cs) mask) (wiped words)
+      → inked (ranOut l (length words) cs) l mask words cs ≡ outcome (Drawn (length cs) (distinct (logOf l cs))) (paintedOf l (logOf l cs) mask) (wiped words)
   unfolding inked
   enough room = rw (le-ltb _ _ room)
 
-  too-many : poolOf l (length words) < distinct (logOf l cs) → inked (tooMany l (length words) cs) l mask words cs ≡ outcome (Refused Full 0) mask (wiped words)
+  too-many : poolOf l (length words) < distinct (logOf l cs) → inked (ranOut l (length words) cs) l mask words cs ≡ outcome (Refused Full (roomFor l (length words) cs)) mask (wiped words)
   unfolding inked
   too-many room = rw (lt-ltb _ _ room)
 
 module _ (l : Label) (s mask words : List ℕ) where
-  abbrev full : List Command → Bool
-  full = tooMany l (length words)
+  abbrev full : List Command → Option ℕ
+  full = ranOut l (length words)
 
   abbrev known : Verdict → Type 0
   known v = checkedOf l (length s) (length mask) (length words) ≡ v
@@ -89,7 +90,7 @@ module _ (l : Label) (s mask words : List ℕ) where
     turned-away : {X : Type 0} {w : Refusal} {i : ℕ} {words′ : List ℕ} → outcome (Refused w i) mask words′ ≡ drawOf l s mask words → X
     turned-away e = refused-not-drawn (answered e ∙ h)
 
-    of-log : (cs : List Command) → known Fine → readList (l .transform) (l .offset) s ≡ path cs → (t : Bool) → full cs ≡ t → Accepted l s (length mask) (length words) records cells
+    of-log : (cs : List Command) → known Fine → readList (l .transform) (l .offset) s ≡ path cs → (t : Bool) → tooMany l (length words) cs ≡ t → Accepted l s (length mask) (length words) records cells
     of-log cs e g true u = turned-away (sym (is-inked cs e g ∙ too-many l mask words cs (ltb-true _ _ u)))
     of-log cs e g false u =
         let room = ltb-false _ _ u in
@@ -98,7 +99,7 @@ module _ (l : Label) (s mask words : List ℕ) where
 
     of-read : known Fine → (r : Read) → readList (l .transform) (l .offset) s ≡ r → Accepted l s (length mask) (length words) records cells
     of-read e (refused w i) g = turned-away (sym (by-refused full l mask words w i) ∙ drawn-from full l s mask words e (refused w i) g ∙ draw-is l s mask words)
-    of-read e (path cs) g = of-log cs e g (full cs) refl
+    of-read e (path cs) g = of-log cs e g (tooMany l (length words) cs) refl
 
     of-check : (v : Verdict) → known v → Accepted l s (length mask) (length words) records cells
     of-check (Faulty w) e = turned-away (turned full l s mask words w e ∙ draw-is l s mask words)

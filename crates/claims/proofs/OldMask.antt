@@ -1,8 +1,9 @@
 -- Two drawings that differ in old mask bytes: the checks look at the mask's length only, and a written byte is a pixel of the deposits.
 use Prim.Native.Nat.{ℕ}
 use mathlib.Core.Path.{_≡_, refl, sym, _∙_}
-use mathlib.Core.Bool.{Bool, true, false}
+use mathlib.Core.Bool.{true, false}
 use mathlib.Core.List.{List}
+use mathlib.Core.Option.{Option, none, some}
 use native.Mathlib.Omega.{arith}
 use lib.ListN.{length}
 use Rattle.command.specs.declared.Command.{Command}
@@ -14,21 +15,21 @@ use Rattle.path.specs.Reading.{Read, refused, path, readList}
 use Rattle.label.specs.declared.Label.{Label}
 use Rattle.label.specs.declared.Answer.the-variants.{Refused}
 use Rattle.label.specs.Checks.{checkedOf}
-use Rattle.label.specs.Draw.{outcome, wiped, logOf, tooMany, inked, drawnFrom, checkedDraw, drawBy, drawOf}
+use Rattle.label.specs.Draw.{outcome, wiped, logOf, ranOut, inked, drawnFrom, checkedDraw, drawBy, drawOf}
 use Rattle.label.proofs.Sizes.{Fitting, fitting}
 use Rattle.claims.specs.OldContents.{MaskAfter, MasksAfter, AlikeButMask, OldMask}
 use Rattle.claims.proofs.OldWords.{by-lengths}
 use Rattle.claims.proofs.Painted.{painted-long, painted-line, other-byte}
 
 -- ---- the mask after a drawing
-module _ (full : List Command → Bool) (l : Label) (mask words : List ℕ) where
+module _ (full : List Command → Option ℕ) (l : Label) (mask words : List ℕ) where
   left : (w : Refusal) (i : ℕ) (words′ : List ℕ) → MaskAfter l mask (outcome (Refused w i) mask words′)
   left w i words′ = record { long = refl; refused = λ h. refl; others = λ i h n. refl }
 
-  after-inked : (b : Bool) (cs : List Command) → MaskAfter l mask (inked b l mask words cs)
+  after-inked : (b : Option ℕ) (cs : List Command) → MaskAfter l mask (inked b l mask words cs)
   unfolding inked
-  after-inked true cs = left Full 0 (wiped words)
-  after-inked false cs = record {
+  after-inked (some i) cs = left Full i (wiped words)
+  after-inked none cs = record {
     long = painted-long l (logOf l cs) mask;
     refused = λ h. absurd (let z : _≡_ {A = ℕ} 0 1 = cc in omega arith);
     others = other-byte l (logOf l cs) mask;
@@ -44,16 +45,16 @@ module _ (full : List Command → Bool) (l : Label) (mask words : List ℕ) wher
   after-checked s (Faulty w) = left w 0 words
   after-checked s Fine = after-drawn (readList (l .transform) (l .offset) s)
 
-pub masks-after-by : (full : Label → ℕ → List Command → Bool) → MasksAfter (λ l s mask words. drawBy (full l (length words)) l s mask words)
+pub masks-after-by : (full : Label → ℕ → List Command → Option ℕ) → MasksAfter (λ l s mask words. drawBy (full l (length words)) l s mask words)
 unfolding drawBy
 masks-after-by full l s mask words = after-checked (full l (length words)) l mask words s (checkedOf l (length s) (length mask) (length words))
 
 pub masks-after : MasksAfter drawOf
 unfolding drawOf
-masks-after = masks-after-by tooMany
+masks-after = masks-after-by ranOut
 
 -- ---- other bytes
-module _ (full : List Command → Bool) (l : Label) (mask mask′ words : List ℕ) (e : length mask ≡ length mask′) where
+module _ (full : List Command → Option ℕ) (l : Label) (mask mask′ words : List ℕ) (e : length mask ≡ length mask′) where
   both-left : (w : Refusal) (i : ℕ) (words′ : List ℕ) → AlikeButMask l (outcome (Refused w i) mask words′) (outcome (Refused w i) mask′ words′)
   both-left w i words′ = record { answer = refl; words = refl; written = λ h. absurd (let z : _≡_ {A = ℕ} 0 1 = cc in omega arith) }
 
@@ -61,10 +62,10 @@ module _ (full : List Command → Bool) (l : Label) (mask mask′ words : List �
     f′ : Fitting l (length mask′) (length words)
     f′ = rw (← e) f
 
-    both-inked : (b : Bool) (cs : List Command) → AlikeButMask l (inked b l mask words cs) (inked b l mask′ words cs)
+    both-inked : (b : Option ℕ) (cs : List Command) → AlikeButMask l (inked b l mask words cs) (inked b l mask′ words cs)
     unfolding inked
-    both-inked true cs = both-left Full 0 (wiped words)
-    both-inked false cs = record {
+    both-inked (some i) cs = both-left Full i (wiped words)
+    both-inked none cs = record {
       answer = refl;
       words = refl;
       written = λ h y x a b.
@@ -82,7 +83,7 @@ module _ (full : List Command → Bool) (l : Label) (mask mask′ words : List �
   both-checked s (Faulty w) g = both-left w 0 words
   both-checked s Fine g = both-drawn (g refl) (readList (l .transform) (l .offset) s)
 
-pub old-mask-by : (full : Label → ℕ → List Command → Bool) → OldMask (λ l s mask words. drawBy (full l (length words)) l s mask words)
+pub old-mask-by : (full : Label → ℕ → List Command → Option ℕ) → OldMask (λ l s mask words. drawBy (full l (length words)) l s mask words)
 old-mask-by full l s mask mask′ words e =
     let w = full l (length words) in
     rw (by-lengths w l s mask words (length mask) (length words) refl refl, by-lengths w l s mask′ words (length mask) (length words) (sym e) refl)
@@ -90,4 +91,4 @@ old-mask-by full l s mask mask′ words e =
 
 pub old-mask : OldMask drawOf
 unfolding drawOf
-old-mask = old-mask-by tooMany
+old-mask = old-mask-by ranOut

@@ -1,8 +1,9 @@
 -- Two drawings that differ in old words: the rules look at how many there are, and what they leave is zeros.
 use Prim.Native.Nat.{ℕ}
 use mathlib.Core.Path.{_≡_, refl, sym, _∙_}
-use mathlib.Core.Bool.{Bool, true, false}
+use mathlib.Core.Bool.{true}
 use mathlib.Core.List.{List}
+use mathlib.Core.Option.{Option, none, some}
 use lib.ListN.{length}
 use Rattle.command.specs.declared.Command.{Command}
 use Rattle.path.specs.declared.Verdict.{Verdict}
@@ -11,12 +12,12 @@ use Rattle.path.specs.Reading.{Read, refused, path, readList}
 use Rattle.label.specs.declared.Label.{Label}
 use Rattle.label.specs.declared.Answer.{Answer}
 use Rattle.label.specs.Checks.{checkedOf}
-use Rattle.label.specs.Draw.{Outcome, tooMany, inked, drawnFrom, checkedDraw, drawBy, drawOf}
+use Rattle.label.specs.Draw.{Outcome, ranOut, inked, drawnFrom, checkedDraw, drawBy, drawOf}
 use Rattle.claims.specs.OldContents.{wipes, wordsAfter, AlikeButWords, OldWords}
 use Rattle.claims.proofs.WordsAfter.{words-after-by}
 
 -- a drawing, by the lengths of its mask and its words
-module _ (full : List Command → Bool) (l : Label) (s mask words : List ℕ) where
+module _ (full : List Command → Option ℕ) (l : Label) (s mask words : List ℕ) where
   pub by-lengths : (m w : ℕ) → length mask ≡ m → length words ≡ w → drawBy full l s mask words ≡ checkedDraw full (checkedOf l (length s) m w) l s mask words
   unfolding drawBy
   by-lengths m w p q = rw (p, q)
@@ -26,11 +27,11 @@ record Same (o o′ : Outcome) : Type 0 where
   pub answer : o .answer ≡ o′ .answer
   pub mask : o .mask ≡ o′ .mask
 
-module _ (full : List Command → Bool) (l : Label) (mask words words′ : List ℕ) where
-  same-inked : (b : Bool) (cs : List Command) → Same (inked b l mask words cs) (inked b l mask words′ cs)
+module _ (full : List Command → Option ℕ) (l : Label) (mask words words′ : List ℕ) where
+  same-inked : (b : Option ℕ) (cs : List Command) → Same (inked b l mask words cs) (inked b l mask words′ cs)
   unfolding inked
-  same-inked true cs = record { answer = refl; mask = refl }
-  same-inked false cs = record { answer = refl; mask = refl }
+  same-inked (some i) cs = record { answer = refl; mask = refl }
+  same-inked none cs = record { answer = refl; mask = refl }
 
   same-drawn : (r : Read) → Same (drawnFrom full l mask words r) (drawnFrom full l mask words′ r)
   unfolding drawnFrom
@@ -42,7 +43,7 @@ module _ (full : List Command → Bool) (l : Label) (mask words words′ : List 
   same-checked s (Faulty w) = record { answer = refl; mask = refl }
   same-checked s Fine = same-drawn (readList (l .transform) (l .offset) s)
 
-module _ (full : Label → ℕ → List Command → Bool) (l : Label) (s mask words words′ : List ℕ) (e : length words ≡ length words′) where
+module _ (full : Label → ℕ → List Command → Option ℕ) (l : Label) (s mask words words′ : List ℕ) (e : length words ≡ length words′) where
   abbrev before : Outcome
   before = drawBy (full l (length words)) l s mask words
 
@@ -70,4 +71,4 @@ module _ (full : Label → ℕ → List Command → Bool) (l : Label) (s mask wo
 
 pub old-words : OldWords drawOf
 unfolding drawOf
-old-words = old-words-by tooMany
+old-words = old-words-by ranOut

@@ -26,7 +26,7 @@ use Rattle.path.specs.Reading.{Read, refused, path, before, judged, allPass, af
 use Rattle.label.specs.declared.Label.{Label}
 use Rattle.label.specs.declared.Answer.the-variants.{Refused}
 use Rattle.label.specs.Checks.{mostPixels, mostPitch, rows, sizesOf, andThen, checkedOf}
-use Rattle.label.specs.Draw.{Outcome, outcome, tooMany, inked, drawnFrom, checkedDraw, drawBy, drawOf}
+use Rattle.label.specs.Draw.{Outcome, outcome, ranOut, inked, drawnFrom, checkedDraw, drawBy, drawOf}
 use Rattle.claims.specs.OldContents.{wordsAfter, WordsAfter}
 
 -- ---- neither the checks nor the reading answer 13
@@ -118,13 +118,13 @@ After words o = o .words ≡ wordsAfter (o .answer) words
 refusing : (w : Refusal) (i : ℕ) (mask words : List ℕ) → Early w → After words (outcome (Refused w i) mask words)
 refusing w i mask words h = sym (ap (λ (b : Bool). cond b (replicate (length words) 0) words) h)
 
-inking : (full : Bool) (l : Label) (mask words : List ℕ) (cs : List Command) → After words (inked full l mask words cs)
+inking : (full : Option ℕ) (l : Label) (mask words : List ℕ) (cs : List Command) → After words (inked full l mask words cs)
 unfolding inked
-inking true l mask words cs = refl
-inking false l mask words cs = refl
+inking (some i) l mask words cs = refl
+inking none l mask words cs = refl
 
 -- ---- whatever rule 13 is
-module _ (full : List Command → Bool) (l : Label) (mask words : List ℕ) where
+module _ (full : List Command → Option ℕ) (l : Label) (mask words : List ℕ) where
   drawing : (r : Read) → EarlyRead r → After words (drawnFrom full l mask words r)
   unfolding drawnFrom
   drawing (refused w i) h = refusing w i mask words h
@@ -135,11 +135,11 @@ module _ (full : List Command → Bool) (l : Label) (mask words : List ℕ) wher
   checking s (Faulty w) h = refusing w 0 mask words (h .early w refl)
   checking s Fine h = drawing (readList (l .transform) (l .offset) s) (read (l .transform) (l .offset) s)
 
-pub words-after-by : (full : Label → ℕ → List Command → Bool) → WordsAfter (λ l s mask words. drawBy (full l (length words)) l s mask words)
+pub words-after-by : (full : Label → ℕ → List Command → Option ℕ) → WordsAfter (λ l s mask words. drawBy (full l (length words)) l s mask words)
 unfolding drawBy
 words-after-by full l s mask words =
     checking (full l (length words)) l mask words s (checkedOf l (length s) (length mask) (length words)) (checked l (length s) (length mask) (length words))
 
 pub words-after : WordsAfter drawOf
 unfolding drawOf
-words-after = words-after-by tooMany
+words-after = words-after-by ranOut

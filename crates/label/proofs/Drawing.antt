@@ -1,8 +1,8 @@
 -- The outcome of a drawing by its first answers, whatever rule 13 is.
 use Prim.Native.Nat.{ℕ}
 use mathlib.Core.Path.{_≡_, refl, sym, ap, _∙_}
-use mathlib.Core.Bool.{Bool}
 use mathlib.Core.List.{List}
+use mathlib.Core.Option.{Option}
 use native.Mathlib.Omega.{arith}
 use lib.ListN.{length}
 use Rattle.command.specs.declared.Command.{Command}
@@ -14,7 +14,7 @@ use Rattle.path.specs.Reading.{Read, path, refused, readList, judgedOf}
 use Rattle.label.specs.declared.Label.{Label}
 use Rattle.label.specs.declared.Answer.the-variants.{Drawn, Refused}
 use Rattle.label.specs.Checks.{checkedOf}
-use Rattle.label.specs.Draw.{Outcome, outcome, tooMany, inked, drawnFrom, checkedDraw, drawBy, drawOf}
+use Rattle.label.specs.Draw.{Outcome, outcome, ranOut, inked, drawnFrom, checkedDraw, drawBy, drawOf}
 use Rattle.label.specs.Inking.{Inked}
 
 pub answered : {o o′ : Outcome} → o ≡ o′ → o .answer ≡ o′ .answer
@@ -29,12 +29,12 @@ drawn-not-refused e = absurd (let z : _≡_ {A = ℕ} 0 1 = cc in omega arith)
 pub refused-not-drawn : {X : Type 0} {w : Refusal} {i r n : ℕ} → Refused w i ≡ Drawn r n → X
 refused-not-drawn e = absurd (let z : _≡_ {A = ℕ} 0 1 = cc in omega arith)
 
-pub draw-is : (l : Label) (s mask words : List ℕ) → drawBy (tooMany l (length words)) l s mask words ≡ drawOf l s mask words
+pub draw-is : (l : Label) (s mask words : List ℕ) → drawBy (ranOut l (length words)) l s mask words ≡ drawOf l s mask words
 unfolding drawOf
 draw-is l s mask words = refl
 
 -- ---- one step of the rule
-module _ (full : List Command → Bool) (l : Label) (s mask words : List ℕ) where
+module _ (full : List Command → Option ℕ) (l : Label) (s mask words : List ℕ) where
   pub by-check : (v : Verdict) → checkedOf l (length s) (length mask) (length words) ≡ v → checkedDraw full v l s mask words ≡ drawBy full l s mask words
   unfolding drawBy
   by-check v e = rw e
@@ -47,7 +47,7 @@ module _ (full : List Command → Bool) (l : Label) (s mask words : List ℕ) wh
   unfolding checkedDraw
   by-read r e = rw e
 
-module _ (full : List Command → Bool) (l : Label) (mask words : List ℕ) where
+module _ (full : List Command → Option ℕ) (l : Label) (mask words : List ℕ) where
   pub by-refused : (w : Refusal) (i : ℕ) → drawnFrom full l mask words (refused w i) ≡ outcome (Refused w i) mask words
   unfolding drawnFrom
   by-refused w i = refl
@@ -57,7 +57,7 @@ module _ (full : List Command → Bool) (l : Label) (mask words : List ℕ) wher
   by-path cs = refl
 
 -- ---- the first answers
-module _ (full : List Command → Bool) (l : Label) (s mask words : List ℕ) where
+module _ (full : List Command → Option ℕ) (l : Label) (s mask words : List ℕ) where
   pub turned : (w : Refusal) → checkedOf l (length s) (length mask) (length words) ≡ Faulty w → outcome (Refused w 0) mask words ≡ drawBy full l s mask words
   turned w e = sym (by-turned full l s mask words w) ∙ by-check full l s mask words (Faulty w) e
 

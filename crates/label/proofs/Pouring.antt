@@ -5,20 +5,21 @@ use mathlib.Core.List.{List}
 use native.Mathlib.Omega.{arith}
 use lib.ListN.{length, replicate}
 use borrow.Author.Tests.{lt-ltb, le-ltb}
-use Rattle.storage.specs.declared.Kept.{Kept}
-use Rattle.storage.specs.declared.Kept.the-variants.{Cells, Full}
 use Rattle.storage.specs.Deposits.{distinct}
 use Rattle.storage.specs.Cells.{Holds}
-use Rattle.storage.specs.Answers.{Within}
 use Rattle.sweep.specs.Masks as masks
 use Rattle.sweep.proofs.Mask.{mask-is}
+use Rattle.path.specs.declared.Pool.{Pool}
+use Rattle.path.specs.declared.Pool.the-variants.{Cells, Full}
 use Rattle.path.specs.declared.Refusal.the-variants as refusal
+use Rattle.path.specs.Inputs.{mostBytes}
+use Rattle.path.specs.Storing.{Within}
 use Rattle.path.specs.Pouring.{Fits}
 use Rattle.path.proofs.Pouring.{pool-fits}
 use Rattle.label.specs.declared.Label.{Label}
 use Rattle.label.specs.declared.Answer.the-variants.{Drawn, Refused}
 use Rattle.label.specs.Checks.{rows}
-use Rattle.label.specs.Draw.{poolOf, outcome, paintedOf, logOf, tooMany, inked}
+use Rattle.label.specs.Draw.{poolOf, outcome, paintedOf, logOf, roomFor, ranOut, inked}
 use Rattle.label.specs.Inking.{Sized, Lent, Poured, Inked}
 
 module _ (l : Label) (z : Sized l) where
@@ -32,26 +33,32 @@ module _ (l : Label) (z : Sized l) where
   }
 
   -- a count of cells is small
-  pub few-cells : (words n : ℕ) (k : Kept) → k ≡ Cells n → Within (poolOf l words) k → n ≤ 16384
-  few-cells words n k e h =
+  pub few-cells : (words bytes n : ℕ) (k : Pool) → k ≡ Cells n → Within (poolOf l words) bytes k → n ≤ 16384
+  few-cells words bytes n k e h =
       let few : n ≤ poolOf l words = rw e at h in
+      omega arith
+
+  -- and so is the record that 13 names
+  pub early-record : (words bytes i : ℕ) (k : Pool) → bytes ≤ mostBytes → k ≡ Full i → Within (poolOf l words) bytes k → i ≤ mostBytes
+  early-record words bytes i k b e h =
+      let few : i ≤ bytes = rw e at h in
       omega arith
 
   -- ---- the outcome
   module _ (records : ℕ) (s mask ws ws′ : List ℕ) where
-    pub inked-full : (k : Kept) → k ≡ Full → Poured l s ws ws′ k → (ws″ : List ℕ) → ws″ ≡ replicate (length ws′) 0
-        → Inked (tooMany l (length ws)) l records s mask ws (outcome (Refused refusal.Full 0) mask ws″)
+    pub inked-full : (i : ℕ) (k : Pool) → k ≡ Full i → Poured l s ws ws′ k → (ws″ : List ℕ) → ws″ ≡ replicate (length ws′) 0
+        → Inked (ranOut l (length ws)) l records s mask ws (outcome (Refused refusal.Full i) mask ws″)
     unfolding inked
-    inked-full k f p ws″ e =
+    inked-full i k f p ws″ e =
         record {
           rule = λ cs a m.
               let log = logOf l cs in
-              let more : poolOf l (length ws) < distinct log = rw f at (p .stored cs a) in
-              rw (lt-ltb _ _ more, e, p .same);
+              let full : (poolOf l (length ws) < distinct log) × (i ≡ roomFor l (length ws) cs) = rw f at (p .stored cs a) in
+              rw (lt-ltb _ _ (full .0), full .1, e, p .same);
         }
 
-    pub inked-cells : (n : ℕ) (k : Kept) → k ≡ Cells n → Poured l s ws ws′ k → (mask′ : List ℕ) → masks.Swept ws′ mask mask′ (rows l) n (l .width) (l .fill) (l .up) (l .pitch)
-        → (ws″ : List ℕ) → ws″ ≡ replicate (length ws′) 0 → Inked (tooMany l (length ws)) l records s mask ws (outcome (Drawn records n) mask′ ws″)
+    pub inked-cells : (n : ℕ) (k : Pool) → k ≡ Cells n → Poured l s ws ws′ k → (mask′ : List ℕ) → masks.Swept ws′ mask mask′ (rows l) n (l .width) (l .fill) (l .up) (l .pitch)
+        → (ws″ : List ℕ) → ws″ ≡ replicate (length ws′) 0 → Inked (ranOut l (length ws)) l records s mask ws (outcome (Drawn records n) mask′ ws″)
     unfolding inked paintedOf
     inked-cells n k f p mask′ w ws″ e =
         record {
@@ -65,7 +72,7 @@ module _ (l : Label) (z : Sized l) where
         }
 
     -- the sizes that `sweep` asks
-    pub sweeps : (n : ℕ) (k : Kept) → k ≡ Cells n → Poured l s ws ws′ k → Lent l (length mask) (length ws) → masks.Fits ws′ mask (rows l) n (l .width) (l .pitch)
+    pub sweeps : (n : ℕ) (k : Pool) → k ≡ Cells n → Poured l s ws ws′ k → Lent l (length mask) (length ws) → masks.Fits ws′ mask (rows l) n (l .width) (l .pitch)
     sweeps n k f p t =
         let few : n ≤ poolOf l (length ws) = rw f at (p .within) in
         let fits = pool-fits (rows l) (length ws) (t .heads) in

@@ -1,7 +1,8 @@
 -- docs/RULES.md, "When a label is turned away" and "What a call leaves": the whole outcome of a drawing.
 use Prim.Native.Nat.{ℕ}
 use mathlib.Core.Bool.{Bool, cond}
-use mathlib.Core.List.{List}
+use mathlib.Core.List.{List, []}
+use mathlib.Core.Option.{Option, none, some}
 use lib.ListN.{length, replicate}
 use lib.Dec.{ltb}
 use Rattle.storage.specs.Deposits.{Deposit, distinct}
@@ -16,6 +17,7 @@ use Rattle.path.specs.declared.Verdict.the-variants.{Fine, Faulty}
 use Rattle.path.specs.Refusals.{numberOf}
 use Rattle.path.specs.Reading.{Read, refused, path, readList}
 use Rattle.path.specs.Strokes.{strokesOf}
+use Rattle.path.specs.Storing.{storedBy, fitting}
 use Rattle.path.specs.Pouring as pouring
 use Rattle.label.specs.declared.Label.{Label}
 use Rattle.label.specs.declared.Answer.{Answer}
@@ -62,33 +64,43 @@ logOf l cs = depositsOf (frameOf l) (strokesOf (l .transform) (l .offset) cs)
 abbrev pub tooMany : Label → ℕ → List Command → Bool
 tooMany l words cs = ltb (poolOf l words) (distinct (logOf l cs))
 
+-- how many records, from the front, the pool has room for, the end counting as one more. 13 names the one behind these
+abbrev pub roomFor : Label → ℕ → List Command → ℕ
+roomFor l words cs = fitting (poolOf l words) [] (storedBy (frameOf l) (strokesOf (l .transform) (l .offset) cs))
+
+-- 13 with the record that it names, where there are too many places
+abbrev pub thirteen : Bool → ℕ → Option ℕ
+thirteen many index = cond many (some index) none
+
+abbrev pub ranOut : Label → ℕ → List Command → Option ℕ
+ranOut l words cs = thirteen (tooMany l words cs) (roomFor l words cs)
+
 -- 13 leaves the mask; else the numbers of records and of cells, and the mask painted
-unfoldable pub inked : Bool → Label → List ℕ → List ℕ → List Command → Outcome
+unfoldable pub inked : Option ℕ → Label → List ℕ → List ℕ → List Command → Outcome
 unfolding distinct depositsOf strokesOf paintedOf
-inked full l mask words cs =
-    cond full (outcome (Refused Full 0) mask (wiped words))
-    (outcome (Drawn (length cs) (distinct (logOf l cs))) (paintedOf l (logOf l cs) mask) (wiped words))
+inked (some index) l mask words cs = outcome (Refused Full index) mask (wiped words)
+inked none l mask words cs = outcome (Drawn (length cs) (distinct (logOf l cs))) (paintedOf l (logOf l cs) mask) (wiped words)
 
 -- a refusal by 1 to 12 or 18 changes neither mask nor words
 abbrev pub turnedAway : Refusal → ℕ → List ℕ → List ℕ → Outcome
 turnedAway why index mask words = outcome (Refused why index) mask words
 
-unfoldable pub drawnFrom : (List Command → Bool) → Label → List ℕ → List ℕ → Read → Outcome
+unfoldable pub drawnFrom : (List Command → Option ℕ) → Label → List ℕ → List ℕ → Read → Outcome
 unfolding inked
 drawnFrom full l mask words (refused why i) = turnedAway why i mask words
 drawnFrom full l mask words (path cs) = inked (full cs) l mask words cs
 
-unfoldable pub checkedDraw : (List Command → Bool) → Verdict → Label → List ℕ → List ℕ → List ℕ → Outcome
+unfoldable pub checkedDraw : (List Command → Option ℕ) → Verdict → Label → List ℕ → List ℕ → List ℕ → Outcome
 unfolding drawnFrom readList
 checkedDraw full (Faulty why) l s mask words = turnedAway why 0 mask words
 checkedDraw full Fine l s mask words = drawnFrom full l mask words (readList (l .transform) (l .offset) s)
 
--- the outcome of a drawing for which `full` is rule 13
-unfoldable pub drawBy : (List Command → Bool) → Label → List ℕ → List ℕ → List ℕ → Outcome
+-- the outcome of a drawing for which `full` is rule 13, with its record
+unfoldable pub drawBy : (List Command → Option ℕ) → Label → List ℕ → List ℕ → List ℕ → Outcome
 unfolding checkedOf checkedDraw
 drawBy full l s mask words = checkedDraw full (checkedOf l (length s) (length mask) (length words)) l s mask words
 
 -- the outcome of a drawing: the label, the list, the mask and the workspace
 unfoldable pub drawOf : Label → List ℕ → List ℕ → List ℕ → Outcome
-unfolding distinct depositsOf strokesOf drawBy
-drawOf l s mask words = drawBy (tooMany l (length words)) l s mask words
+unfolding distinct depositsOf strokesOf fitting storedBy drawBy
+drawOf l s mask words = drawBy (ranOut l (length words)) l s mask words

@@ -1,12 +1,12 @@
 -- What the inner functions of a drawing ask and promise.
 use Prim.Native.Nat.{ℕ, _+_, _*_, _-_, _≤_, _<_}
 use mathlib.Core.Path.{_≡_}
-use mathlib.Core.Bool.{Bool}
 use mathlib.Core.List.{List}
+use mathlib.Core.Option.{Option}
 use lib.ListN.{length}
-use Rattle.storage.specs.declared.Kept.{Kept}
 use Rattle.storage.specs.Cells.{Holds}
 use Rattle.command.specs.declared.Command.{Command}
+use Rattle.path.specs.declared.Pool.{Pool}
 use Rattle.path.specs.declared.Refusal.{Refusal}
 use Rattle.path.specs.Reading.{path, readList}
 use Rattle.path.specs.Pouring as pouring
@@ -31,11 +31,11 @@ pub record Lent (l : Label) (mask words : ℕ) : Type 0 where
   pub heads : rows l ≤ words
 
 -- of an accepted list: what its strokes store is in the words, or is too much for the pool
-abbrev pub Poured : Label → List ℕ → List ℕ → List ℕ → Kept → Type 0
+abbrev pub Poured : Label → List ℕ → List ℕ → List ℕ → Pool → Type 0
 Poured l s before after r = pouring.Poured (l .transform) (l .offset) (l .width) (l .first) (l .end) s before after r
 
 -- of an accepted list of so many records: the outcome is the rule's
-pub record Inked (full : List Command → Bool) (l : Label) (records : ℕ) (s mask words : List ℕ) (o : Outcome) : Type 0 where
+pub record Inked (full : List Command → Option ℕ) (l : Label) (records : ℕ) (s mask words : List ℕ) (o : Outcome) : Type 0 where
   pub rule : (cs : List Command) → readList (l .transform) (l .offset) s ≡ path cs → records ≡ length cs → o ≡ inked (full cs) l mask words cs
 
 -- `draw`'s answer for a mask of that length; where it is accepted the words hold what the strokes store, and a refusal

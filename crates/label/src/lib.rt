@@ -3,9 +3,9 @@
 use geometry::Point;
 use geometry::Transform;
 use path::Judged;
+use path::Pool;
 use path::Refusal;
 use path::Verdict;
-use storage::Kept;
 use sweep::Fill;
 ghost use mathlib.Core.Path.{_≡_};
 ghost use mathlib.Core.Bool.{_&&_};
@@ -13,7 +13,8 @@ ghost use Prim.Native.Nat.{_+_, _*_, _-_, _≤_};
 ghost use lib.Dec.{ltb};
 ghost use lib.ListN.{length};
 ghost use Rattle.label.specs.Checks.{sizesOf, checkedOf};
-ghost use Rattle.label.specs.Draw.{numbersOf, outcome, tooMany, drawOf};
+ghost use Rattle.path.specs.Inputs.{mostBytes};
+ghost use Rattle.label.specs.Draw.{numbersOf, outcome, ranOut, drawOf};
 ghost use Rattle.label.specs.Inking.{Sized, Lent, Inked, Celled};
 
 // What a drawing takes besides list, mask and workspace. The band is the rows from first up to end.
@@ -122,20 +123,20 @@ pub fn check(l: Label, list: usize, mask: usize, words: usize) -> Verdict
 
 // Draws an accepted list of so many records.
 fn ink(list: &[u8], l: Label, records: u32, mask: &mut [u8], words: &mut [u32]) -> Answer
-    requires { ⌜ Sized l ⌝ ∗ ⌜ Lent l (length (now mask)) (length (now words)) ⌝ }
-    ensures { λ r. ⌜ Inked (tooMany l (length (now (words .entry)))) l records (now (list .entry)) (now (mask .entry)) (now (words .entry)) (outcome r (now (mask .exit)) (now (words .exit))) ⌝ }
+    requires { ⌜ Sized l ⌝ ∗ ⌜ Lent l (length (now mask)) (length (now words)) ⌝ ∗ ⌜ length (now list) ≤ mostBytes ⌝ }
+    ensures { λ r. ⌜ Inked (ranOut l (length (now (words .entry)))) l records (now (list .entry)) (now (mask .entry)) (now (words .entry)) (outcome r (now (mask .exit)) (now (words .exit))) ⌝ }
 {
     let rows = l.end - l.first;
     let fill = l.fill;
     match path::pour(list, l.transform, l.offset, l.width, l.first, l.end, words) {
-        Kept::Full => {
+        Pool::Full(i) => {
             storage::wipe(words);
             Answer::Refused {
                 why: Refusal::Full,
-                record: 0,
+                record: i as u32,
             }
         }
-        Kept::Cells(n) => {
+        Pool::Cells(n) => {
             sweep::sweep(words, rows, n, l.width, fill, l.up, l.pitch, mask);
             storage::wipe(words);
             Answer::Drawn {
@@ -177,14 +178,14 @@ pub fn cells(list: &[u8], l: Label, mask: usize, words: &mut [u32]) -> Answer
                 l.end,
                 words,
             ) {
-                Kept::Full => {
+                Pool::Full(i) => {
                     storage::wipe(words);
                     Answer::Refused {
                         why: Refusal::Full,
-                        record: 0,
+                        record: i as u32,
                     }
                 }
-                Kept::Cells(count) => Answer::Drawn {
+                Pool::Cells(count) => Answer::Drawn {
                     records: n,
                     cells: count as u32,
                 },

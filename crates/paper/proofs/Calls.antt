@@ -1,8 +1,9 @@
 -- Every call, by the four ways in which a drawing ends: 1 to 5, 6 to 12 and 18, 13, and 0.
-use Prim.Native.Nat.{ℕ, zero, suc, _<_}
+use Prim.Native.Nat.{ℕ, zero, suc, _≤_, _<_}
 use mathlib.Core.Path.{_≡_, refl, sym, ap, _∙_}
 use mathlib.Core.Bool.{Bool, true, false}
 use mathlib.Core.List.{List}
+use mathlib.Core.Option.{Option, none, some}
 use mathlib.Core.Logic.{_↔_, _⊎_, inl, inr}
 use native.Mathlib.Omega.{arith}
 use native.Mathlib.Decide.{decLt, ℕ-discrete}
@@ -10,10 +11,10 @@ use lib.ListN.{length, getD, replicate, length-replicate}
 use Rattle.command.specs.declared.Command.{Command}
 use Rattle.label.specs.declared.Label.{Label}
 use Rattle.label.specs.declared.Numbers.{Numbers}
-use Rattle.paper.specs.TurnedAway.{sizeFault, Read, path, faulty, readList}
+use Rattle.paper.specs.TurnedAway.{mostPixels, sizeFault, Read, path, faulty, readList}
 use Rattle.paper.specs.Cells.{cellsOf, distinct}
 use Rattle.paper.specs.Bytes.{painted}
-use Rattle.paper.specs.Drawing.{Outcome, refused, accepted, wiped, oneFull, inked, drawRead, drawIn}
+use Rattle.paper.specs.Drawing.{Outcome, refused, accepted, wiped, oneFull, firstOf, inked, drawRead, drawIn}
 use Rattle.paper.specs.Demands.{number, In, place, Answered, EveryCall}
 use Rattle.paper.proofs.Faults.{size-most, Listed, ListedRead, not-thirteen, answer-most, list-listed}
 use Rattle.paper.proofs.Pictures.{sound, pixel-at}
@@ -59,21 +60,29 @@ module _ (bands : List Label) (l : Label) (s mask words : List ℕ) where
   unfolding drawRead
   by-fault n i e g = by-read (faulty n i) e g
 
+  -- a path, by the test whether a band is full
+  abbrev by-test : List Command → Bool → Outcome
+  by-test cs t =
+      let full : Option ℕ = elim t [ true ↦ some (firstOf (length words) cs bands) | false ↦ none ] in
+      inked full l (length cs) (cellsOf l cs) mask words
+
   pub by-full : (cs : List Command) → size ≡ 0 → read ≡ path cs → oneFull (length words) cs bands ≡ true
-      → out ≡ refused 13 0 mask (wiped words)
+      → out ≡ refused 13 (firstOf (length words) cs bands) mask (wiped words)
   unfolding drawRead inked
-  by-full cs e g t = by-read (path cs) e g ∙ rw t
+  by-full cs e g t = by-read (path cs) e g ∙ ap (by-test cs) t
 
   pub by-path : (cs : List Command) → size ≡ 0 → read ≡ path cs → oneFull (length words) cs bands ≡ false
       → out ≡ accepted (length cs) (distinct (cellsOf l cs)) (painted l (cellsOf l cs) 0 mask) (wiped words)
   unfolding drawRead inked
-  by-path cs e g t = by-read (path cs) e g ∙ rw t
+  by-path cs e g t = by-read (path cs) e g ∙ ap (by-test cs) t
 
   -- ---- what each leaves
-  module _ (Full : List Command → Type 0)
-      (asked : (cs : List Command) → oneFull (length words) cs bands ≡ true ↔ Full cs) where
+  module _ (Full : List Command → Type 0) (Out : List Command → ℕ → Type 0)
+      (asked : (cs : List Command) → oneFull (length words) cs bands ≡ true ↔ Full cs)
+      (named : (cs : List Command) → l .width ≤ mostPixels → oneFull (length words) cs bands ≡ true → (i : ℕ)
+      → firstOf (length words) cs bands ≡ i ↔ Out cs i) where
     abbrev Good : Outcome → Type 0
-    Good = Answered Full l s mask words
+    Good = Answered Full Out l s mask words
 
     of-size : (k : ℕ) → size ≡ suc k → Good (refused (suc k) 0 mask words)
     of-size k e =
@@ -83,6 +92,7 @@ module _ (bands : List Label) (l : Label) (s mask words : List ℕ) where
           sizes = λ n a b. (λ p. e ∙ p, λ q. sym e ∙ q);
           records = λ n i a b. (λ p. absurd (omega (arith, p .0)), λ q. absurd (omega (arith, q .0)));
           thirteen = (λ p. absurd (omega arith), λ q. absurd (omega (arith, q .1)));
+          ranOut = λ cs i p. absurd (omega arith);
           accepted = (λ p. absurd (omega arith), λ q. absurd (omega (arith, q .1)));
           counts = λ cs p q. absurd (omega arith);
           noCounts = λ p. (refl, refl);
@@ -102,10 +112,11 @@ module _ (bands : List Label) (l : Label) (s mask words : List ℕ) where
           records = λ m j a b.
               (λ p. (e, g ∙ same-fault (p .0) (p .1)), λ q. (one-number (sym g ∙ q .1), one-index (sym g ∙ q .1)));
           thirteen = (λ p. absurd (other p), λ q. no-path (sym (q .2) ∙ g));
+          ranOut = λ cs j p. absurd (other p);
           accepted = (λ p. absurd (omega arith), λ q. no-path (sym (q .2) ∙ g));
           counts = λ cs p q. absurd (omega arith);
           noCounts = λ p. (refl, refl);
-          noIndex = elim [ inl p ↦ h .none p | inr p ↦ absurd (other p) ];
+          noIndex = h .none;
           maskKept = λ p. refl;
           wordsKept = λ p q. refl;
           wordsWiped = elim [ inl p ↦ absurd (omega arith) | inr p ↦ absurd (other p) ];
@@ -115,16 +126,23 @@ module _ (bands : List Label) (l : Label) (s mask words : List ℕ) where
       same-full : (cs′ : List Command) → read ≡ path cs′ → Full cs′ → Full cs
       same-full cs′ p h = rw (one-path (sym g ∙ p)) h
 
-      of-full : oneFull (length words) cs bands ≡ true → Good (refused 13 0 mask (wiped words))
+      same-out : (cs′ : List Command) → read ≡ path cs′ → (i : ℕ) → Out cs i ↔ Out cs′ i
+      same-out cs′ p i = rw (one-path (sym g ∙ p)) (λ h. h, λ h. h)
+
+      of-full : oneFull (length words) cs bands ≡ true → Good (refused 13 (firstOf (length words) cs bands) mask (wiped words))
       of-full t = record {
         answers = inl (omega arith);
         sizes = λ m a b. (λ p. absurd (omega arith), λ q. absurd (omega arith));
         records = λ m j a b. (λ p. absurd (b (sym (p .0))), λ q. no-path (sym g ∙ q .1));
         thirteen = (λ p. (cs, e, g, asked cs .0 t), λ q. refl);
+        ranOut = λ cs′ i p q.
+            let own = named cs (sound l (length mask) (length words) e .narrow) t i in
+            let same = same-out cs′ q i in
+            (λ a. same .0 (own .0 a), λ b. own .1 (same .1 b));
         accepted = (λ p. absurd (omega arith), λ q. absurd (q .3 (rw (one-path (sym (q .2) ∙ g)) (asked cs .0 t))));
         counts = λ cs p q. absurd (omega arith);
         noCounts = λ p. (refl, refl);
-        noIndex = λ p. refl;
+        noIndex = λ p. absurd (omega arith);
         maskKept = λ p. refl;
         wordsKept = λ p q. absurd (q refl);
         wordsWiped = λ p. refl;
@@ -140,6 +158,7 @@ module _ (bands : List Label) (l : Label) (s mask words : List ℕ) where
         sizes = λ m a b. (λ p. absurd (omega arith), λ q. absurd (omega arith));
         records = λ m j a b. (λ p. absurd (omega (arith, p .0)), λ q. no-path (sym g ∙ q .1));
         thirteen = (λ p. absurd (omega arith), λ q. absurd (not-full t (same-full (q .0) (q .2) (q .3))));
+        ranOut = λ cs′ i p. absurd (omega arith);
         accepted = (λ p. (cs, e, g, not-full t), λ q. refl);
         counts = λ cs′ p q.
             let same = one-path (sym g ∙ q) in
@@ -165,7 +184,7 @@ module _ (bands : List Label) (l : Label) (s mask words : List ℕ) where
     size-or zero e = read-or e read refl (list-listed (l .transform) (l .offset) s)
     size-or (suc k) e = rw (by-size k e) (of-size k e)
 
-    pub answered : Answered Full l s mask words (drawIn bands l s mask words)
+    pub answered : Answered Full Out l s mask words (drawIn bands l s mask words)
     answered = size-or size refl
 
 -- ---- other words
@@ -186,7 +205,7 @@ module _ (bands : List Label) (l : Label) (s mask words words′ : List ℕ) (e 
   words-full : (cs : List Command) → size bands l s mask words ≡ 0 → read bands l s mask words ≡ path cs
       → (t : Bool) → oneFull (length words) cs bands ≡ t → SameButWords one two
   words-full cs h g true t =
-      rw (by-full bands l s mask words cs h g t, by-full bands l s mask words′ cs (other-size 0 h) g (rw e at t))
+      rw (by-full bands l s mask words cs h g t, by-full bands l s mask words′ cs (other-size 0 h) g (rw e at t), e)
       (refl, refl)
   words-full cs h g false t =
       rw (by-path bands l s mask words cs h g t, by-path bands l s mask words′ cs (other-size 0 h) g (rw e at t))
@@ -256,10 +275,16 @@ module _ (bands : List Label) (l : Label) (s mask mask′ words : List ℕ) (e :
 
 -- ---- of every call, in whatever bands
 module _ (bands : Label → List Label) (Full : Label → ℕ → List Command → Type 0)
-    (asked : (l : Label) (words : ℕ) (cs : List Command) → oneFull words cs (bands l) ≡ true ↔ Full l words cs) where
-  calls : (l : Label) (s mask words : List ℕ)
-      → Answered (Full l (length words)) l s mask words (drawIn (bands l) l s mask words)
-  calls l s mask words = answered (bands l) l s mask words (Full l (length words)) (asked l (length words))
+    (Out : Label → ℕ → List Command → ℕ → Type 0)
+    (asked : (l : Label) (words : ℕ) (cs : List Command) → oneFull words cs (bands l) ≡ true ↔ Full l words cs)
+    (named : (l : Label) (words : ℕ) (cs : List Command) → l .width ≤ mostPixels → oneFull words cs (bands l) ≡ true
+    → (i : ℕ) → firstOf words cs (bands l) ≡ i ↔ Out l words cs i) where
+  abbrev Call : Label → List ℕ → List ℕ → List ℕ → Outcome → Type 0
+  Call l s mask words = Answered (Full l (length words)) (Out l (length words)) l s mask words
+
+  calls : (l : Label) (s mask words : List ℕ) → Call l s mask words (drawIn (bands l) l s mask words)
+  calls l s mask words =
+      answered (bands l) l s mask words (Full l (length words)) (Out l (length words)) (asked l (length words)) (named l (length words))
 
   -- there are as many words as before
   as-many : (l : Label) (s mask words : List ℕ) → length (drawIn (bands l) l s mask words .words) ≡ length words
@@ -268,18 +293,18 @@ module _ (bands : Label → List Label) (Full : Label → ℕ → List Command �
       zeros : length (wiped words) ≡ length words
       zeros = length-replicate (length words) 0
 
-      of-number : (o : Outcome) → Answered (Full l (length words)) l s mask words o
+      of-number : (o : Outcome) → Call l s mask words o
           → Dec (0 < number o) → Dec (number o ≡ 13) → length (o .words) ≡ length words
       of-number o h (no a) b = ap length (h .wordsWiped (inl (omega arith))) ∙ zeros
       of-number o h (yes a) (no b) = ap length (h .wordsKept a b)
       of-number o h (yes a) (yes b) = ap length (h .wordsWiped (inr b)) ∙ zeros
 
-      go : (o : Outcome) → Answered (Full l (length words)) l s mask words o → length (o .words) ≡ length words
+      go : (o : Outcome) → Call l s mask words o → length (o .words) ≡ length words
       go o h = of-number o h (decLt 0 (number o)) (ℕ-discrete (number o) 13)
 
   -- after 0 and 13 two workspaces of one length are one
   both-wiped : (l : Label) (s mask words words′ : List ℕ) → length words ≡ length words′ → (o o′ : Outcome)
-      → Answered (Full l (length words)) l s mask words o → Answered (Full l (length words′)) l s mask words′ o′
+      → Call l s mask words o → Call l s mask words′ o′
       → o .answer ≡ o′ .answer → (number o ≡ 0) ⊎ (number o ≡ 13) → o .words ≡ o′ .words
   both-wiped l s mask words words′ e o o′ h h′ same p =
       h .wordsWiped p ∙ ap (λ (n : ℕ). replicate n 0) e ∙ sym (h′ .wordsWiped (there p))
@@ -288,7 +313,7 @@ module _ (bands : Label → List Label) (Full : Label → ℕ → List Command �
       there (inl q) = inl (sym (ap (λ (a : Numbers). a .number) same) ∙ q)
       there (inr q) = inr (sym (ap (λ (a : Numbers). a .number) same) ∙ q)
 
-  pub by-bands : EveryCall (λ l. drawIn (bands l) l) Full
+  pub by-bands : EveryCall (λ l. drawIn (bands l) l) Full Out
   by-bands = record {
     answered = calls;
     nextLabel = λ l last s s′ mask mask′ words.

@@ -11,7 +11,7 @@ use Rattle.paper.specs.Steps.{mostBands}
 use Rattle.paper.specs.TurnedAway.{sizeFault, path, readList}
 use Rattle.paper.specs.Cells.{cellsOf}
 use Rattle.paper.specs.Bytes.{painted}
-use Rattle.paper.specs.Drawing.{oneFull, drawIn, draw, bandsFrom, drawInBands}
+use Rattle.paper.specs.Drawing.{oneFull, firstOf, drawIn, draw, bandsFrom, drawInBands}
 use Rattle.paper.specs.Demands.{number, Pictured, Demand2}
 use Rattle.paper.proofs.Pictures.{sound, painted-long, inside, pixel-at, other-at}
 use Rattle.paper.proofs.Calls.{by-full, by-path, answered}
@@ -22,6 +22,9 @@ module _ (bands : List Label) (l : Label) (s mask words : List ℕ) (cs : List C
     (g : readList (l .transform) (l .offset) s ≡ path cs) where
   abbrev Full : List Command → Type 0
   Full ks = oneFull (length words) ks bands ≡ true
+
+  abbrev Out : List Command → ℕ → Type 0
+  Out ks i = firstOf (length words) ks bands ≡ i
 
   a-mask : (h : sizeFault l (length mask) (length words) ≡ 0) → Pictured l cs mask (painted l (cellsOf l cs) 0 mask)
   a-mask h =
@@ -41,7 +44,7 @@ module _ (bands : List Label) (l : Label) (s mask words : List ℕ) (cs : List C
 
   pub pictured : number (drawIn bands l s mask words) ≡ 0 → Pictured l cs mask (drawIn bands l s mask words .mask)
   pictured e =
-      let why = answered bands l s mask words Full (λ ks. (λ t. t, λ t. t)) .accepted .0 e in
+      let why = answered bands l s mask words Full Out (λ ks. (λ t. t, λ t. t)) (λ ks w t i. (λ e. e, λ e. e)) .accepted .0 e in
       full-or (why .1) (oneFull (length words) cs bands) refl e
 
 at-once : (l : Label) (s mask words : List ℕ) (cs : List Command)

@@ -3,6 +3,7 @@ use Prim.Native.Nat.{ℕ, zero, suc, _+_, _-_, _*_, _≤_, max}
 use mathlib.Core.Path.{_≡_, refl, sym, ap, _∙_}
 use mathlib.Core.Bool.{Bool, true, false, cond, _&&_, _||_}
 use mathlib.Core.List.{List, [], _∷_}
+use mathlib.Core.Option.{Option, none, some}
 use borrow.Author.Tests.{ltb-false}
 use lib.Dec.{ltb}
 use lib.ListN.{length}
@@ -10,10 +11,9 @@ use Rattle.command.specs.declared.Command.{Command}
 use Rattle.storage.specs.Deposits as held
 use Rattle.path.specs.declared.Verdict.{Verdict}
 use Rattle.path.specs.declared.Verdict.the-variants.{Fine, Faulty}
-use Rattle.path.specs.declared.Refusal.the-variants.{Size, Band, Pitch, Mask, Workspace, Full}
+use Rattle.path.specs.declared.Refusal.the-variants.{Size, Band, Pitch, Mask, Workspace}
 use Rattle.label.specs.declared.Answer.{Answer}
 use Rattle.label.specs.declared.Numbers.{Numbers}
-use Rattle.label.specs.declared.Answer.the-variants.{Drawn, Refused}
 use Rattle.sweep.specs.Masks.{maskFrom}
 use Rattle.path.specs.Inputs.{inputsOf}
 use Rattle.path.specs.Reading as reading
@@ -21,17 +21,18 @@ use Rattle.placing.specs.Placing.{unlessFaulty, readChecked}
 use Rattle.label.specs.declared.Label.{Label}
 use Rattle.label.specs.Checks.{sizesOf, andThen, checkedOf}
 use Rattle.label.specs.Draw as label
-use Rattle.label.specs.Draw.{numbersOf, logOf, tooMany, drawnFrom, checkedDraw, drawBy, drawOf}
+use Rattle.label.specs.Draw.{numbersOf, logOf, tooMany, roomFor, ranOut, drawnFrom, checkedDraw, drawBy, drawOf}
 use Rattle.claims.specs.Bands.{bandOf}
-use Rattle.bands.specs.InBands.{bandEnd, tooManyFrom, tooManyInBand, drawInBandsOf}
+use Rattle.bands.specs.InBands.{bandEnd, tooManyFrom, tooManyInBand, roomFrom, roomInBand, ranOutInBand, drawInBandsOf}
 use Rattle.paper.specs.Steps.{mostBands}
 use Rattle.paper.specs.TurnedAway.{rows, mostPixels, sizeFault, Read, path, readList}
 use Rattle.paper.specs.Cells.{cellsOf, distinct}
 use Rattle.paper.specs.Bytes.{painted}
-use Rattle.paper.specs.Drawing.{Outcome, left, refused, accepted, wiped, pool, full, oneFull, inked, drawRead, drawIn, draw, band, bandsFrom, drawInBands}
+use Rattle.paper.specs.Drawing.{Outcome, left, refused, pool, full, oneFull, recordOf, firstOf, thirteen, inked, drawRead, drawIn, draw, band, bandsFrom, drawInBands}
 use Rattle.paper.proofs.Places.{distinct-held}
 use Rattle.paper.proofs.Bytes.{painted-held}
 use Rattle.paper.proofs.Marks.{AllPassed, cells-held, cells-in}
+use Rattle.paper.proofs.Room.{record-held}
 use Rattle.paper.proofs.Reading.{numbered, list-held, PassedRead, list-passed}
 
 -- an outcome in the paper's numbers
@@ -54,25 +55,28 @@ full-held : (words : ℕ) (l : Label) (cs : List Command) → l .width ≤ mostP
     → full words cs l ≡ tooMany l words cs
 full-held words l cs w h = ap (λ (n : ℕ). ltb (pool l words) n) (count-held l cs w h)
 
--- 13 is asked by both sides alike
-abbrev Asked : List Label → (List Command → Bool) → Label → ℕ → Type 0
-Asked bands asked l words =
-    (cs : List Command) → l .width ≤ mostPixels → AllPassed (l .transform) (l .offset) cs → oneFull words cs bands ≡ asked cs
+-- 13 and its record, by a test
+by-test : (t : Bool) (i : ℕ) → (elim t as (λ _. Option ℕ) [ true ↦ some i | false ↦ none ]) ≡ label.thirteen t i
+by-test true i = refl
+by-test false i = refl
 
-module _ (bands : List Label) (asked : List Command → Bool) (l : Label) (mask words : List ℕ) (same : Asked bands asked l (length words)) where
+-- 13 is asked by both sides alike
+abbrev Asked : List Label → (List Command → Option ℕ) → Label → ℕ → Type 0
+Asked bands asked l words =
+    (cs : List Command) → l .width ≤ mostPixels → AllPassed (l .transform) (l .offset) cs → thirteen words cs bands ≡ asked cs
+
+module _ (bands : List Label) (asked : List Command → Option ℕ) (l : Label) (mask words : List ℕ) (same : Asked bands asked l (length words)) where
   -- ---- an accepted list
-  full-cond : (t : Bool) (records cells : ℕ) (after : List ℕ)
-      → cond t (refused 13 0 mask (wiped words)) (accepted records cells after (wiped words))
-      ≡ told (cond t (label.outcome (Refused Full 0) mask (label.wiped words)) (label.outcome (Drawn records cells) after (label.wiped words)))
-  full-cond true records cells after = refl
-  full-cond false records cells after = refl
+  inked-by : (t : Option ℕ) (cs : List Command) → l .width ≤ mostPixels → AllPassed (l .transform) (l .offset) cs
+      → inked t l (length cs) (cellsOf l cs) mask words ≡ told (label.inked t l mask words cs)
+  unfolding inked label.inked
+  inked-by (some i) cs w h = refl
+  inked-by none cs w h = rw (count-held l cs w h, paint-held l mask cs w h)
 
   inked-held : (cs : List Command) → l .width ≤ mostPixels → AllPassed (l .transform) (l .offset) cs
-      → inked (oneFull (length words) cs bands) l (length cs) (cellsOf l cs) mask words ≡ told (label.inked (asked cs) l mask words cs)
-  unfolding inked label.inked
+      → inked (thirteen (length words) cs bands) l (length cs) (cellsOf l cs) mask words ≡ told (label.inked (asked cs) l mask words cs)
   inked-held cs w h =
-      rw (same cs w h, count-held l cs w h, paint-held l mask cs w h)
-      (full-cond (asked cs) (length cs) (held.distinct (logOf l cs)) (label.paintedOf l (logOf l cs) mask))
+      ap (λ (t : Option ℕ). inked t l (length cs) (cellsOf l cs) mask words) (same cs w h) ∙ inked-by (asked cs) cs w h
 
   read-drawn : (r : reading.Read) → l .width ≤ mostPixels → PassedRead (l .transform) (l .offset) (numbered r)
       → drawRead bands l (numbered r) mask words ≡ told (drawnFrom asked l mask words r)
@@ -136,17 +140,19 @@ module _ (bands : List Label) (asked : List Command → Bool) (l : Label) (mask 
       (λ e. list-drawn s (narrow e))
 
 -- EVERY DRAWING
-asked-once : (l : Label) (words : ℕ) → Asked (l ∷ []) (tooMany l words) l words
-unfolding oneFull
-asked-once l words cs w h = alone (full words cs l) ∙ full-held words l cs w h
+asked-once : (l : Label) (words : ℕ) → Asked (l ∷ []) (ranOut l words) l words
+unfolding oneFull firstOf
+asked-once l words cs w h =
+    alone (full words cs l) (recordOf words cs l) ∙ rw (full-held words l cs w h, record-held l w words cs h)
   where
-    alone : (b : Bool) → (b || false) ≡ b
-    alone true = refl
-    alone false = refl
+    alone : (b : Bool) (i : ℕ)
+        → (elim (b || false) as (λ _. Option ℕ) [ true ↦ some (elim b [ true ↦ i | false ↦ 0 ]) | false ↦ none ]) ≡ label.thirteen b i
+    alone true i = refl
+    alone false i = refl
 
 pub draws : (l : Label) (s mask words : List ℕ) → draw l s mask words ≡ told (drawOf l s mask words)
 unfolding draw drawOf
-draws l s mask words = draws-in (l ∷ []) (tooMany l (length words)) l mask words (asked-once l (length words)) s
+draws l s mask words = draws-in (l ∷ []) (ranOut l (length words)) l mask words (asked-once l (length words)) s
 
 -- EVERY DRAWING IN BANDS
 module _ (step : ℕ) (l : Label) (words : ℕ) (cs : List Command) (w : l .width ≤ mostPixels) (h : AllPassed (l .transform) (l .offset) cs) where
@@ -165,12 +171,35 @@ module _ (step : ℕ) (l : Label) (words : ℕ) (cs : List Command) (w : l .widt
       let to = bandEnd step from (l .end) in
       asked-band n from to (ltb from (l .end)) (asked-from n to)
 
+  -- the record that it names
+  first-band : (n from to : ℕ) (b : Bool) → firstOf words cs (bandsFrom n step l to) ≡ roomFrom n step l words cs to
+      → firstOf words cs (elim b as (λ _. List Label) [ true ↦ band l from to ∷ bandsFrom n step l to | false ↦ [] ])
+      ≡ (elim b as (λ _. ℕ) [ true ↦ cond (tooMany (bandOf l from to) words cs) (roomFor (bandOf l from to) words cs) (roomFrom n step l words cs to) | false ↦ 0 ])
+  unfolding firstOf
+  first-band n from to true e =
+      picked (full words cs (band l from to)) (recordOf words cs (band l from to)) (firstOf words cs (bandsFrom n step l to))
+      ∙ rw (full-held words (band l from to) cs w h, record-held (band l from to) w words cs h, e)
+    where
+      picked : (t : Bool) (i j : ℕ) → (elim t as (λ _. ℕ) [ true ↦ i | false ↦ j ]) ≡ cond t i j
+      picked true i j = refl
+      picked false i j = refl
+  first-band n from to false e = refl
+
+  first-from : (n from : ℕ) → firstOf words cs (bandsFrom n step l from) ≡ roomFrom n step l words cs from
+  unfolding bandsFrom firstOf roomFrom
+  first-from zero from = refl
+  first-from (suc n) from =
+      let to = bandEnd step from (l .end) in
+      first-band n from to (ltb from (l .end)) (first-from n to)
+
 pub draws-in-bands : (step : ℕ) (l : Label) (s mask words : List ℕ)
     → drawInBands step l s mask words ≡ told (drawInBandsOf step l s mask words)
 unfolding drawInBands drawInBandsOf
 draws-in-bands step l s mask words =
-    draws-in (bandsFrom (mostBands l) (max 1 step) l (l .first)) (tooManyInBand (max 1 step) l (length words)) l mask words
-    (λ cs w h. asked-from (max 1 step) l (length words) cs w h (mostBands l) (l .first)) s
+    draws-in (bandsFrom (mostBands l) (max 1 step) l (l .first)) (ranOutInBand (max 1 step) l (length words)) l mask words
+    (λ cs w h.
+    by-test (oneFull (length words) cs (bandsFrom (mostBands l) (max 1 step) l (l .first))) (firstOf (length words) cs (bandsFrom (mostBands l) (max 1 step) l (l .first)))
+    ∙ rw (asked-from (max 1 step) l (length words) cs w h (mostBands l) (l .first), first-from (max 1 step) l (length words) cs w h (mostBands l) (l .first))) s
 
 -- what the crates below promise is what the rules say
 pub call-draws : (l : Label) (s mask words : List ℕ) (a : Answer) (r : Numbers) (mask′ words′ : List ℕ)

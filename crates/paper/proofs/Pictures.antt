@@ -19,6 +19,7 @@ use Rattle.paper.specs.Demands.{In, place}
 
 -- ---- sizes that are right
 pub record Sound (l : Label) (mask words : ℕ) : Type 0 where
+  pub narrow : l .width ≤ mostPixels
   pub pitched : l .width ≤ l .pitch
   pub near : l .pitch ≤ 65536
   pub lines : 0 < rows l → l .pitch * (rows l - 1) + l .width ≤ mask
@@ -32,12 +33,12 @@ second-is true y e = absurd (let z : _≡_ {A = ℕ} 0 1 = cc in omega arith)
 second-is false y e = e
 
 none-of-five : (a b c d e : Bool) → cond {A = ℕ} a 1 (cond b 2 (cond c 3 (cond d 4 (cond e 5 0)))) ≡ 0
-    → (c ≡ false) × (d ≡ false)
+    → (a ≡ false) × (c ≡ false) × (d ≡ false)
 none-of-five true b c d e h = absurd (omega arith)
 none-of-five false true c d e h = absurd (omega arith)
 none-of-five false false true d e h = absurd (omega arith)
 none-of-five false false false true e h = absurd (omega arith)
-none-of-five false false false false e h = (refl, refl)
+none-of-five false false false false e h = (refl, refl, refl)
 
 long-enough : (n mask need : ℕ) → (ltb 0 n && ltb mask need) ≡ false → 0 < n → need ≤ mask
 long-enough n mask need e h = ltb-false mask need (rw (lt-ltb 0 n h) at e)
@@ -52,9 +53,10 @@ sound l mask words e =
     (ltb 0 (rows l) && ltb mask (l .pitch * (rows l - 1) + l .width))
     (ltb words (rows l)) e in
     record {
-      pitched = ltb-false (l .pitch) (l .width) (first-is (ltb (l .pitch) (l .width)) (ltb 65536 (l .pitch)) (h .0));
-      near = ltb-false 65536 (l .pitch) (second-is (ltb (l .pitch) (l .width)) (ltb 65536 (l .pitch)) (h .0));
-      lines = long-enough (rows l) mask (l .pitch * (rows l - 1) + l .width) (h .1);
+      narrow = ltb-false mostPixels (l .width) (first-is (ltb mostPixels (l .width)) (ltb mostPixels (l .height)) (h .0));
+      pitched = ltb-false (l .pitch) (l .width) (first-is (ltb (l .pitch) (l .width)) (ltb 65536 (l .pitch)) (h .1));
+      near = ltb-false 65536 (l .pitch) (second-is (ltb (l .pitch) (l .width)) (ltb 65536 (l .pitch)) (h .1));
+      lines = long-enough (rows l) mask (l .pitch * (rows l - 1) + l .width) (h .2);
     }
 
 -- ---- a byte by its index

@@ -1,7 +1,7 @@
 -- docs/RULES.md, "Lines, curves, cells": cells. What a drawing stores, in order.
 use Prim.Native.Nat.{ℕ, _+_ as _+ℕ_}
 use mathlib.Core.Bool.{Bool, false, cond, _&&_, _||_}
-use mathlib.Core.List.{List, [], _∷_, _++_}
+use mathlib.Core.List.{List, [], _∷_, _++_, flatten}
 use lib.IntN.{ℤ, pos}
 use Rattle.geometry.specs.declared.Point.{Point}
 use Rattle.command.specs.declared.Command.{Command}
@@ -15,18 +15,22 @@ use Rattle.paper.specs.Curves.{quad, cubic}
 unfoldable pub spotIn : Label → Point → Spot  -- a point of the list in 24.8 numbers
 spotIn l p = let q = shifted (l .offset) (moved (l .transform) p) in record { x = fixedOf (q .x); y = fixedOf (q .y) }
 
--- what the pen does, from point a on, in a subpath begun at s. MoveTo, Close and the end draw a line back to s. Close
--- leaves the pen at s, so that the next of them gives nothing. A MoveTo enters its cell even where the pen is in it
-unfoldable pub marks : Label → Spot → Spot → List Command → List Mark
-marks l a s [] = line l a s
-marks l a s (MoveTo p ∷ cs) =
+-- what the pen does for each record in turn, and last for the end: from point a on, in a subpath begun at s. MoveTo,
+-- Close and the end draw a line back to s. Close leaves the pen at s, so that the next of them gives nothing. A MoveTo
+-- enters its cell even where the pen is in it
+unfoldable pub marksBy : Label → Spot → Spot → List Command → List (List Mark)
+marksBy l a s [] = line l a s ∷ []
+marksBy l a s (MoveTo p ∷ cs) =
     let b = spotIn l p in
-    line l a s ++ enter (cell (b .x)) (cell (b .y)) ∷ marks l b b cs
-marks l a s (LineTo p ∷ cs) = line l a (spotIn l p) ++ marks l (spotIn l p) s cs
-marks l a s (QuadTo c p ∷ cs) = quad l a (spotIn l c) (spotIn l p) ++ marks l (spotIn l p) s cs
-marks l a s (CurveTo c d p ∷ cs) =
-    cubic l a (spotIn l c) (spotIn l d) (spotIn l p) ++ marks l (spotIn l p) s cs
-marks l a s (Close ∷ cs) = line l a s ++ marks l s s cs
+    (line l a s ++ enter (cell (b .x)) (cell (b .y)) ∷ []) ∷ marksBy l b b cs
+marksBy l a s (LineTo p ∷ cs) = line l a (spotIn l p) ∷ marksBy l (spotIn l p) s cs
+marksBy l a s (QuadTo c p ∷ cs) = quad l a (spotIn l c) (spotIn l p) ∷ marksBy l (spotIn l p) s cs
+marksBy l a s (CurveTo c d p ∷ cs) =
+    cubic l a (spotIn l c) (spotIn l d) (spotIn l p) ∷ marksBy l (spotIn l p) s cs
+marksBy l a s (Close ∷ cs) = line l a s ∷ marksBy l s s cs
+
+abbrev pub marks : Label → Spot → Spot → List Command → List Mark  -- all of them, one behind the other
+marks l a s cs = flatten (marksBy l a s cs)
 
 pub record Pair : Type 0 where  -- a cell, and what the pen has given it
   pub column : ℤ
@@ -62,13 +66,34 @@ abbrev pub finish : Label → Pen → List Pair  -- the last cell is stored even
 finish l lifted = []
 finish l (within d) = keep l d []
 
-unfoldable pub stored : Label → Pen → List Mark → List Pair
-stored l pen [] = finish l pen
-stored l pen (enter c r ∷ ms) = leave l pen (stored l (within (pairAt c r +0 +0)) ms)
-stored l pen (give v a ∷ ms) = stored l (given pen v a) ms
+unfoldable pub trail : Label → Pen → List Mark → List Pair  -- what is stored while the pen makes these marks
+trail l pen [] = []
+trail l pen (enter c r ∷ ms) = leave l pen (trail l (within (pairAt c r +0 +0)) ms)
+trail l pen (give v a ∷ ms) = trail l (given pen v a) ms
 
-unfoldable pub cellsOf : Label → List Command → List Pair  -- the pen's point is (0,0) before the first command
-cellsOf l cs = let corner : Spot = record { x = +0; y = +0 } in stored l lifted (marks l corner corner cs)
+unfoldable pub penAfter : Pen → List Mark → Pen  -- where they leave the pen
+penAfter pen [] = pen
+penAfter pen (enter c r ∷ ms) = penAfter (within (pairAt c r +0 +0)) ms
+penAfter pen (give v a ∷ ms) = penAfter (given pen v a) ms
+
+unfoldable pub stored : Label → Pen → List Mark → List Pair  -- and the last cell behind that
+stored l pen ms = trail l pen ms ++ finish l (penAfter pen ms)
+
+abbrev pub corner : Spot  -- the pen's point before the first command
+corner = record { x = +0; y = +0 }
+
+unfoldable pub cellsOf : Label → List Command → List Pair
+cellsOf l cs = stored l lifted (marks l corner corner cs)
+
+unfoldable pub storedBy : Label → Pen → List (List Mark) → List (List Pair)
+storedBy l pen [] = []
+storedBy l pen (ms ∷ []) = stored l pen ms ∷ []
+storedBy l pen (ms ∷ next ∷ rest) = trail l pen ms ∷ storedBy l (penAfter pen ms) (next ∷ rest)
+
+-- the same, by the record that stores it: the one that leaves a cell, and not the one that gave it ink. What closing at
+-- the end and the last cell store is by the end, the last of these lists
+unfoldable pub cellsBy : Label → List Command → List (List Pair)
+cellsBy l cs = storedBy l lifted (marksBy l corner corner cs)
 
 unfoldable pub known : List Pair → Pair → Bool  -- a place is a column and a row
 known [] d = false

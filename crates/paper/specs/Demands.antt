@@ -5,10 +5,10 @@
 use Prim.Native.Nat.{ℕ, _+_, _-_, _*_, _≤_, _<_, min, max}
 use mathlib.Core.Path.{_≡_}
 use mathlib.Core.Bool.{true, false, cond, _&&_}
-use mathlib.Core.List.{List, [], _∷_}
+use mathlib.Core.List.{List, [], _∷_, flatten}
 use mathlib.Core.Logic.{_↔_, _⊎_}
 use mathlib.Core.Option.{Option, none, some}
-use lib.ListN.{length, getD}
+use lib.ListN.{length, getD, take}
 use lib.IntN.{pos}
 use Rattle.geometry.specs.declared.Point.{Point}
 use Rattle.geometry.specs.declared.Transform.{Transform}
@@ -16,8 +16,8 @@ use Rattle.geometry.specs.declared.Origin.{Origin}
 use Rattle.command.specs.declared.Command.{Command}
 use Rattle.label.specs.declared.Label.{Label}
 use Rattle.paper.specs.Floats.{passes}
-use Rattle.paper.specs.TurnedAway.{rows, sizeFault, afterClose, draws, path, faulty, readList}
-use Rattle.paper.specs.Cells.{cellsOf, distinct}
+use Rattle.paper.specs.TurnedAway.{rows, mostPixels, sizeFault, afterClose, draws, path, faulty, readList}
+use Rattle.paper.specs.Cells.{cellsOf, cellsBy, distinct}
 use Rattle.paper.specs.Bytes.{value, byteOf}
 use Rattle.paper.specs.Drawing.{Outcome, pool, wiped, draw, band, drawInBands}
 use Rattle.paper.specs.Placing.{pointsIn, origin, boxOf, boxed, bounds, around, unlaid, placement}
@@ -39,8 +39,9 @@ place l y x = l .pitch * cond (l .up) (l .end - 1 - y) (y - l .first) + x
 -- leaves the mask untouched; a workspace carries nothing from one label to the next
 
 -- what a call leaves, o, of the label l, the list s, the mask and the words. `Full cs` says that the path cs stores
--- into more places than the pool has
-pub record Answered (Full : List Command → Type 0) (l : Label) (s mask words : List ℕ) (o : Outcome) : Type 0 where
+-- into more places than the pool has, and `Out cs i` that its record i is the first for which there is no room
+pub record Answered (Full : List Command → Type 0) (Out : List Command → ℕ → Type 0) (l : Label) (s mask words : List ℕ)
+    (o : Outcome) : Type 0 where
   pub answers : (number o ≤ 13) ⊎ (number o ≡ 18)
   -- 1 to 5: what the sizes alone say
   pub sizes : (n : ℕ) → 1 ≤ n → n ≤ 5 → number o ≡ n ↔ sizeFault l (length mask) (length words) ≡ n
@@ -52,6 +53,9 @@ pub record Answered (Full : List Command → Type 0) (l : Label) (s mask words :
   pub thirteen : number o ≡ 13
       ↔ (cs : List Command) × (sizeFault l (length mask) (length words) ≡ 0)
       × (readList (l .transform) (l .offset) s ≡ path cs) × Full cs
+  -- its index is that record's
+  pub ranOut : (cs : List Command) (i : ℕ) → number o ≡ 13 → readList (l .transform) (l .offset) s ≡ path cs
+      → o .answer .index ≡ i ↔ Out cs i
   -- 0: the sizes are right, the list is a path, and it is not too much
   pub accepted : number o ≡ 0
       ↔ (cs : List Command) × (sizeFault l (length mask) (length words) ≡ 0)
@@ -60,15 +64,16 @@ pub record Answered (Full : List Command → Type 0) (l : Label) (s mask words :
   pub counts : (cs : List Command) → number o ≡ 0 → readList (l .transform) (l .offset) s ≡ path cs
       → (o .answer .records ≡ length cs) × (o .answer .cells ≡ distinct (cellsOf l cs))
   pub noCounts : 0 < number o → (o .answer .records ≡ 0) × (o .answer .cells ≡ 0)
-  -- 8 to 12 and 18 alone are the fault of a record
-  pub noIndex : (number o < 8) ⊎ (number o ≡ 13) → o .answer .index ≡ 0
+  -- 8 to 13 and 18 alone are the fault of a record
+  pub noIndex : number o < 8 → o .answer .index ≡ 0
   pub maskKept : 0 < number o → o .mask ≡ mask
   pub wordsKept : 0 < number o → ¬ (number o ≡ 13) → o .words ≡ words
   pub wordsWiped : (number o ≡ 0) ⊎ (number o ≡ 13) → o .words ≡ wiped words
 
-pub record EveryCall (drawing : Drawing) (Full : Label → ℕ → List Command → Type 0) : Type 0 where
+pub record EveryCall (drawing : Drawing) (Full : Label → ℕ → List Command → Type 0)
+    (Out : Label → ℕ → List Command → ℕ → Type 0) : Type 0 where
   pub answered : (l : Label) (s mask words : List ℕ)
-      → Answered (Full l (length words)) l s mask words (drawing l s mask words)
+      → Answered (Full l (length words)) (Out l (length words)) l s mask words (drawing l s mask words)
   -- a workspace as the last label left it does as well as one in which that was not drawn
   pub nextLabel : (l last : Label) (s s′ mask mask′ words : List ℕ)
       → let used = drawing last s′ mask′ words .words in
@@ -102,9 +107,27 @@ OneTooMany step l words cs =
     (k : ℕ) × (l .first + k * max 1 step < l .end)
     × TooMany (band l (l .first + k * max 1 step) (min (l .end) (l .first + (k + 1) * max 1 step))) words cs
 
+abbrev pub placesOf : Label → List Command → ℕ → ℕ  -- how many places the first n records store into
+placesOf l cs n = distinct (flatten (take n (cellsBy l cs)))
+
+-- the records before record i fit into the pool, and with it they do not. The end counts as the record behind the last
+abbrev pub RunsOut : Label → ℕ → List Command → ℕ → Type 0
+RunsOut l words cs i =
+    (i ≤ length cs) × (placesOf l cs i ≤ pool l words) × (pool l words < placesOf l cs (i + 1))
+
+-- in bands: record i does so in the k-th of them, drawn alone, and none before it has too many
+abbrev pub FirstRunsOut : ℕ → Label → ℕ → List Command → ℕ → Type 0
+FirstRunsOut step l words cs i =
+    let own : ℕ → Label = λ k. band l (l .first + k * max 1 step) (min (l .end) (l .first + (k + 1) * max 1 step)) in
+    (k : ℕ) × (l .first + k * max 1 step < l .end) × ((j : ℕ) → j < k → ¬ TooMany (own j) words cs)
+    × RunsOut (own k) words cs i
+
 pub record Demand1 : Type 0 where
-  pub atOnce : EveryCall draw TooMany
-  pub inBands : (step : ℕ) → EveryCall (drawInBands step) (OneTooMany step)
+  pub atOnce : EveryCall draw TooMany RunsOut
+  pub inBands : (step : ℕ) → EveryCall (drawInBands step) (OneTooMany step) (FirstRunsOut step)
+  -- a record runs out of room exactly where there are too many places
+  pub runsOut : (l : Label) (words : ℕ) (cs : List Command) → l .width ≤ mostPixels
+      → TooMany l words cs ↔ (i : ℕ) × RunsOut l words cs i
   -- what is read as a path has no drawing after Close
   pub apart : (t : Transform) (o : Point) (s : List ℕ) (cs : List Command) → readList t o s ≡ path cs → Apart none cs
   -- bounds and placements know 6 to 12 and 18 alone, as the list is read

@@ -1,7 +1,8 @@
 -- docs/RULES.md, "When a label is turned away": 13; "What a call leaves"; "In bands".
 use Prim.Native.Nat.{ℕ, zero, suc, _+_, _-_, _/_, min, max}
-use mathlib.Core.Bool.{Bool, true, false, cond, _||_}
-use mathlib.Core.List.{List, [], _∷_}
+use mathlib.Core.Bool.{Bool, true, false, _||_}
+use mathlib.Core.List.{List, [], _∷_, _++_}
+use mathlib.Core.Option.{Option, none, some}
 use lib.ListN.{length, replicate}
 use lib.Dec.{ltb}
 use Rattle.command.specs.declared.Command.{Command}
@@ -9,7 +10,7 @@ use Rattle.label.specs.declared.Label.{Label}
 use Rattle.label.specs.declared.Numbers.{Numbers}
 use Rattle.paper.specs.Steps.{mostBands}
 use Rattle.paper.specs.TurnedAway.{rows, sizeFault, Read, path, faulty, readList}
-use Rattle.paper.specs.Cells.{Pair, cellsOf, distinct}
+use Rattle.paper.specs.Cells.{Pair, cellsOf, cellsBy, distinct}
 use Rattle.paper.specs.Bytes.{painted}
 
 pub record Outcome : Type 0 where  -- what a call leaves: its answer, and mask and workspace after it
@@ -42,17 +43,34 @@ unfoldable pub oneFull : ℕ → List Command → List Label → Bool  -- one of
 oneFull words cs [] = false
 oneFull words cs (band ∷ bands) = full words cs band || oneFull words cs bands
 
--- the path's cells painted, or, where a band is full, 13 and the mask as it was; the words are wiped either way
-unfoldable pub inked : Bool → Label → ℕ → List Pair → List ℕ → List ℕ → Outcome
-inked full l records cells mask words =
-    cond full (refused 13 0 mask (wiped words))
-    (accepted records (distinct cells) (painted l cells 0 mask) (wiped words))
+-- how many of the lists, from the front, fit into so many places, each with all before it
+unfoldable pub fitting : ℕ → List Pair → List (List Pair) → ℕ
+fitting room before [] = 0
+fitting room before (ds ∷ rest) =
+    elim (ltb room (distinct (before ++ ds))) [ true ↦ 0 | false ↦ suc (fitting room (before ++ ds) rest) ]
+
+abbrev pub recordOf : ℕ → List Command → Label → ℕ  -- the record that 13 names: in that band, those before it fit
+recordOf words cs band = fitting (pool band words) [] (cellsBy band cs)
+
+unfoldable pub firstOf : ℕ → List Command → List Label → ℕ  -- the one that the first full band names
+firstOf words cs [] = 0
+firstOf words cs (band ∷ bands) =
+    elim (full words cs band) [ true ↦ recordOf words cs band | false ↦ firstOf words cs bands ]
+
+abbrev pub thirteen : ℕ → List Command → List Label → Option ℕ  -- 13 with its record, where a band is full
+thirteen words cs bands = elim (oneFull words cs bands) [ true ↦ some (firstOf words cs bands) | false ↦ none ]
+
+-- the path's cells painted, or 13, its record and the mask as it was; the words are wiped either way
+unfoldable pub inked : Option ℕ → Label → ℕ → List Pair → List ℕ → List ℕ → Outcome
+inked (some index) l records cells mask words = refused 13 index mask (wiped words)
+inked none l records cells mask words =
+    accepted records (distinct cells) (painted l cells 0 mask) (wiped words)
 
 -- a list as it was read: every refusal but 13 leaves mask and words as they were
 unfoldable pub drawRead : List Label → Label → Read → List ℕ → List ℕ → Outcome
 drawRead bands l (faulty number index) mask words = refused number index mask words
 drawRead bands l (path cs) mask words =
-    inked (oneFull (length words) cs bands) l (length cs) (cellsOf l cs) mask words
+    inked (thirteen (length words) cs bands) l (length cs) (cellsOf l cs) mask words
 
 -- the label l drawn in these bands: 1 to 5, then 6 to 12 and 18, and only then 13
 unfoldable pub drawIn : List Label → Label → List ℕ → List ℕ → List ℕ → Outcome

@@ -6,20 +6,17 @@ use native.Mathlib.Omega.{arith}
 use lib.ListN.{length, drop, replicate, length-append, length-drop, length-replicate}
 use Rattle.geometry.specs.declared.Point.{Point}
 use Rattle.geometry.specs.declared.Transform.{Transform}
-use Rattle.storage.specs.declared.Kept.{Kept}
 use Rattle.storage.specs.Deposits.{Deposit}
 use Rattle.storage.specs.Cells.{Holds}
-use Rattle.storage.specs.Answers.{Stored}
 use Rattle.storage.proofs.Pools.{cleared}
-use Rattle.pen.specs.Marks.{deposits}
 use Rattle.pen.specs.Drawing.{rows as frameRows, width as frameWidth, Ready}
-use Rattle.raster.specs.Path.{depositsOf}
-use Rattle.path.specs.Strokes.{Traced}
-use Rattle.path.specs.Pouring.{poolOf, frameOf, Fits, Poured}
+use Rattle.path.specs.declared.Pool.{Pool}
+use Rattle.path.specs.Storing.{Filled}
+use Rattle.path.specs.Pouring.{poolOf, frameOf, Fits, Traced, Poured}
 
-moved : (ws : List ℕ) {n n′ w w′ : ℕ} (cap : ℕ) (log : List Deposit) (r : Kept) → n ≡ n′ → w ≡ w′ → Stored ws n w cap log r
-    → Stored ws n′ w′ cap log r
-moved ws cap log r p q h = rw (← p, ← q) h
+moved : (ws : List ℕ) {n n′ w w′ : ℕ} (cap : ℕ) (log : List Deposit) (each : List (List Deposit)) (r : Pool) → n ≡ n′ → w ≡ w′
+    → Filled ws n w cap log each r → Filled ws n′ w′ cap log each r
+moved ws cap log each r p q h = rw (← p, ← q) h
 
 pub pool-fits : (rows words : ℕ) → rows ≤ words → rows + 4 * poolOf rows words ≤ words
 pool-fits rows words h = omega arith
@@ -56,15 +53,14 @@ module _ (width first end : ℕ) (ws : List ℕ) (z : Fits width first end (leng
     none-yet : (n w : ℕ) → n ≡ rows → Holds ws′ n w 0 []
     none-yet n w r = rw (r, e) (cleared (drop rows ws) rows w)
 
-    pub poured : (t : Transform) (o : Point) (s ws″ : List ℕ) (r : Kept) → Traced (frameOf width first end) cap ws′ ws″ t o s r
+    pub poured : (t : Transform) (o : Point) (s ws″ : List ℕ) (r : Pool) → Traced (frameOf width first end) cap ws′ ws″ t o s r
         → Poured t o width first end s ws ws″ r
-    unfolding depositsOf deposits
     poured t o s ws″ r d =
         record {
           within = rw (← p) (d .within);
           same = d .same ∙ cleared-long;
           stored = λ cs a.
               rw (← p)
-              (moved ws″ cap _ r same-rows same-width
-              (d .adds cs a .adds [] (none-yet (frameRows (frameOf width first end)) (frameWidth (frameOf width first end)) same-rows)));
+              (moved ws″ cap _ _ r same-rows same-width
+              (d .stored cs a (none-yet (frameRows (frameOf width first end)) (frameWidth (frameOf width first end)) same-rows)));
         }

@@ -21,8 +21,9 @@ ghost use Rattle.raster.specs.Tracing.{ReachAll};
 ghost use Rattle.path.specs.Refusals.{numberOf, refusalOf};
 ghost use Rattle.path.specs.Inputs.{finitePoint, finiteTransform, inputsOf};
 ghost use Rattle.path.specs.Reading.{spotAt, passed, allPass, verdictOf, readList, judgedOf};
-ghost use Rattle.path.specs.Strokes.{fixedAt, strokeOf, Traced};
-ghost use Rattle.path.specs.Pouring.{poolOf, frameOf, Fits, Poured};
+ghost use Rattle.path.specs.Strokes.{fixedAt, strokeOf};
+ghost use Rattle.path.specs.Storing.{poolAt};
+ghost use Rattle.path.specs.Pouring.{poolOf, frameOf, Fits, Traced, Poured};
 ghost use Rattle.command.specs.Commands.{pointsOf};
 
 // The longest list, in bytes.
@@ -253,24 +254,52 @@ fn stroke_of(t: Transform, o: Point, k: Command) -> Stroke
     }
 }
 
-// Draws the list's strokes into a pool that holds nothing yet.
-fn trace_list(ws: &mut [u32], f: Frame, cap: usize, list: &[u8], t: Transform, o: Point) -> Kept
+// A pool after a list was drawn: it holds so many cells, or the record of this index was too much for it. The end counts as
+// the record behind the last.
+pub enum Pool {
+    Cells(usize),
+    Full(usize),
+}
+
+// The pool as the record of index n leaves it.
+fn pool_at(kept: Kept, n: usize) -> Pool
+    ensures { λ r. ⌜ r ≡ poolAt kept n ⌝ }
+{
+    match kept {
+        Kept::Cells(count) => Pool::Cells(count),
+        Kept::Full => Pool::Full(n),
+    }
+}
+
+// Draws the list's strokes into a pool that holds nothing yet, up to a record that is too much for it.
+fn trace_list(ws: &mut [u32], f: Frame, cap: usize, list: &[u8], t: Transform, o: Point) -> Pool
     requires { ⌜ Ready f cap (now ws) ⌝ }
     ensures { λ r. ⌜ Traced f cap (now (ws .entry)) (now (ws .exit)) t o (now (list .entry)) r ⌝ }
 {
     let mut track = raster::begin();
     let mut at: usize = 0;
+    let mut n: usize = 0;
     loop {
         match list::step_at(list, at) {
             Step::End => {
-                return raster::finish(ws, f, cap, track);
+                return pool_at(raster::finish(ws, f, cap, track), n);
             }
             Step::Refused(_) => {
-                return raster::finish(ws, f, cap, track);
+                return pool_at(raster::finish(ws, f, cap, track), n);
             }
             Step::Command(k, next) => {
                 track = raster::trace(ws, f, cap, track, stroke_of(t, o, k));
-                at = next;
+                let pen = track.pen;
+                let kept = pen.kept;
+                match kept {
+                    Kept::Full => {
+                        return Pool::Full(n);
+                    }
+                    Kept::Cells(_) => {
+                        n += 1;
+                        at = next;
+                    }
+                }
             }
         }
     }
@@ -309,7 +338,7 @@ pub fn pour(
     first: usize,
     end: usize,
     words: &mut [u32],
-) -> Kept
+) -> Pool
     requires { ⌜ Fits width first end (length (now words)) ⌝ }
     ensures { λ r. ⌜ Poured t o width first end (now (list .entry)) (now (words .entry)) (now (words .exit)) r ⌝ }
 {

@@ -270,7 +270,7 @@ shiftedBy x y l = record {
 -- ---- a row: a label, a list, a mask of so many 7s, a workspace of so many 9s, and what is to come of them
 pub data Told : Type 0 where
   drawn : ℕ → ℕ → List ℕ → Told  -- records, cells and the whole mask; all words are zero
-  full : Told  -- 13: the mask is as it was, all words are zero
+  full : ℕ → Told  -- 13 with its index: the mask is as it was, all words are zero
   turned : ℕ → ℕ → Told  -- a refusal's number and index: mask and words are as they were
 
 abbrev pub counts : ℕ → ℕ → ℕ → ℕ → Numbers
@@ -278,7 +278,7 @@ counts number index records cells = record { number = number; index = index; rec
 
 abbrev pub wanted : ℕ → ℕ → Told → Outcome
 wanted m w (drawn r c mask) = record { answer = counts 0 0 r c; mask = mask; words = replicate w 0 }
-wanted m w full = record { answer = counts 13 0 0 0; mask = replicate m 7; words = replicate w 0 }
+wanted m w (full i) = record { answer = counts 13 i 0 0; mask = replicate m 7; words = replicate w 0 }
 wanted m w (turned n i) = record { answer = counts n i 0 0; mask = replicate m 7; words = replicate w 9 }
 
 abbrev pub Draws : Label → List ℕ → ℕ → ℕ → Told → Type 0  -- it is drawn as told

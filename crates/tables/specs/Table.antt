@@ -1,6 +1,6 @@
 -- docs/RULES.md, "Labels to try": K1 to K12 in one table, each entry computed from the rules.
 use mathlib.Core.Path.{_≡_, refl}
-use mathlib.Core.List.{[], _∷_, _++_}
+use mathlib.Core.List.{[], _∷_, _++_, flatten}
 use lib.IntN.{pos, negsuc}
 use lib.Ieee.{ofBits, add, mul, lt, neg, ofInt}
 use Rattle.geometry.specs.declared.Origin.the-variants.{BottomLeft}
@@ -13,9 +13,9 @@ use Rattle.paper.specs.Floats.{fixedOf, identity}
 use Rattle.paper.specs.TurnedAway.{sizeFault, inputFault, allPass, recordFault, readFrom, readList}
 use Rattle.paper.specs.Lines as lines
 use Rattle.paper.specs.Curves as curves
-use Rattle.paper.specs.Cells.{spotIn, marks, stored, cellsOf, known, distinct}
+use Rattle.paper.specs.Cells.{spotIn, marksBy, trail, penAfter, stored, cellsOf, storedBy, cellsBy, known, distinct}
 use Rattle.paper.specs.Bytes.{coverUpTo, areaAt, byteOf, painted}
-use Rattle.paper.specs.Drawing.{oneFull, inked, drawRead, drawIn, draw}
+use Rattle.paper.specs.Drawing.{oneFull, fitting, firstOf, inked, drawRead, drawIn, draw}
 use Rattle.paper.specs.Placing.{boxFrom, boxOf, pointsIn, bounds, floor, placementOf, placement}
 use Rattle.tables.specs.Lists.{−5, −1, n0, n0·25, n0·5, n1, n1·5, n2, n3, n3·25, n9, corners, label}
 use Rattle.tables.specs.Lists.{drawn, full, Draws, lies}
@@ -57,9 +57,10 @@ pub record Table : Type 0 where
   pub k6 : Draws (label 4 1) (corners −5 n0 n2 n0 n2 n1 −5 n1) 4 40 (drawn 5 2 (255 ∷ 255 ∷ 0 ∷ 0 ∷ []))
   -- K7: x 2 to 9
   pub k7 : Draws (label 4 1) (corners n2 n0 n9 n0 n9 n1 n2 n1) 4 40 (drawn 5 1 (0 ∷ 0 ∷ 255 ∷ 255 ∷ []))
-  -- K8: lone MoveTo (0,0), 1×1; with a 1-word workspace, 13
+  -- K8: lone MoveTo (0,0), 1×1; with a 1-word workspace, 13 with record 1, and with 4 words too
   pub k8 : Draws (label 1 1) (move n0 n0) 1 5 (drawn 1 1 (0 ∷ []))
-  pub k8-full : Draws (label 1 1) (move n0 n0) 1 1 full
+  pub k8-full : Draws (label 1 1) (move n0 n0) 1 1 (full 1)
+  pub k8-4-words : Draws (label 1 1) (move n0 n0) 1 4 (full 1)
   -- K9: the byte of v = −131,072 under either rule
   pub k9 : (byteOf NonZero (negsuc 131071) ≡ 255) × (byteOf EvenOdd (negsuc 131071) ≡ 255)
   -- K10: v = 262,144, nonzero and even-odd
@@ -76,8 +77,8 @@ pub record Table : Type 0 where
       ∷ 0 ∷ 0 ∷ 0 ∷ []))
 
 pub table : Table
-unfolding draw drawIn oneFull drawRead inked painted byteOf coverUpTo areaAt distinct known cellsOf stored marks spotIn
-    curves.quad curves.cubic curves.along curves.quadPoints curves.doublings curves.cubicPoints curves.curved
+unfolding draw drawIn oneFull firstOf fitting drawRead inked painted byteOf coverUpTo areaAt distinct known cellsOf cellsBy
+    stored storedBy trail penAfter marksBy flatten spotIn curves.quad curves.cubic curves.along curves.quadPoints curves.doublings curves.cubicPoints curves.curved
     lines.line lines.whole lines.walk lines.upright readList readFrom recordFault allPass inputFault sizeFault
     fixedOf commandIn wrapped placement placementOf bounds pointsIn boxOf boxFrom floor ofBits add mul lt neg ofInt
 table = record {
@@ -91,6 +92,7 @@ table = record {
   k7 = refl;
   k8 = refl;
   k8-full = refl;
+  k8-4-words = refl;
   k9 = (refl, refl);
   k10 = (refl, refl);
   k11 = refl;

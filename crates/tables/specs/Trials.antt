@@ -3,7 +3,7 @@
 use Prim.Native.Nat.{ℕ}
 use mathlib.Core.Path.{_≡_, refl}
 use mathlib.Core.Bool.{true, false}
-use mathlib.Core.List.{List, [], _∷_, _++_}
+use mathlib.Core.List.{List, [], _∷_, _++_, flatten}
 use lib.ListN.{take, replicate}
 use lib.IntN.{pos, negsuc}
 use lib.Ieee.{ofBits, add, mul, lt, neg, ofInt}
@@ -18,16 +18,25 @@ use Rattle.paper.specs.Floats.{fixedOf, identity, scale}
 use Rattle.paper.specs.TurnedAway.{sizeFault, inputFault, allPass, recordFault, readFrom, readList}
 use Rattle.paper.specs.Lines as lines
 use Rattle.paper.specs.Curves as curves
-use Rattle.paper.specs.Cells.{spotIn, marks, stored, cellsOf, known, distinct}
+use Rattle.paper.specs.Cells.{spotIn, marksBy, trail, penAfter, stored, cellsOf, storedBy, cellsBy, known, distinct}
 use Rattle.paper.specs.Bytes.{coverUpTo, areaAt, byteOf, painted}
-use Rattle.paper.specs.Drawing.{oneFull, inked, drawRead, drawIn, draw, bandsFrom, drawInBands}
+use Rattle.paper.specs.Drawing.{oneFull, fitting, firstOf, inked, drawRead, drawIn, draw, bandsFrom, drawInBands}
 use Rattle.paper.specs.Placing.{boxFrom, boxOf, pointsIn, bounds, floor, placementOf, placement}
 use Rattle.tables.specs.Lists.{−4096·004, −4096·0034, −4096, −4095, −2048, −9, −5, −4, −3, −2, −1, −0·5, n0}
-use Rattle.tables.specs.Lists.{−0, n0·25, n0·5, n0·75, n1, n2, n2·5, n3, n3·25, n4, n5, n6, n7, n8}
+use Rattle.tables.specs.Lists.{−0, n0·25, n0·5, n0·75, n1, n1·5, n2, n2·5, n3, n3·25, n4, n5, n6, n7, n8, n9}
 use Rattle.tables.specs.Lists.{n2048, n4095, n4096, n4096·0034, n4096·004, n4097, huge, infinite, notNumber}
 use Rattle.tables.specs.Lists.{corners, rectangle, nulls, closes, affine, banded, label, under}
 use Rattle.tables.specs.Lists.{shiftedBy, drawn, full, turned, Draws, InBands, box, boxRefused, lies}
 use Rattle.tables.specs.Lists.{placeRefused}
+
+abbrev hook : List ℕ  -- open, in one row: down in column 0, level into column 1
+hook = move n0·5 n0 ++ line n0·5 n0·5 ++ line n1·5 n0·5
+
+abbrev unit : List ℕ  -- the pixel (0,0)
+unit = corners n0 n0 n1 n0 n1 n1 n0 n1
+
+abbrev lower-first : List ℕ  -- the pixel below it, and then that
+lower-first = corners n0 n1 n1 n1 n1 n2 n0 n2 ++ unit
 
 abbrev loop : List ℕ  -- a closed cubic that leaves the label at the top and at both sides
 loop = move n0·25 −1 ++ curve n8 n6 −4 n6 n4 −0·5 ++ close
@@ -342,7 +351,7 @@ pub record Trials : Type 0 where
   -- a band without rows writes nothing, and needs no mask and no word
   pub band-empty : Draws (banded NonZero false 4 3 4 2 2) rectangle 0 0 (drawn 5 0 [])
   -- K1 with room for one place, and for two
-  pub full-13 : Draws (label 4 3) rectangle 12 10 full
+  pub full-13 : Draws (label 4 3) rectangle 12 10 (full 5)
   pub room :
       Draws (label 4 3) rectangle 12 11
       (drawn 5 2
@@ -351,8 +360,22 @@ pub record Trials : Type 0 where
       ∷ 0 ∷ 0 ∷ 0 ∷ 0 ∷ []))
   -- a place that is there takes no room
   pub full-repeated :
-      Draws (label 1 1) (corners n0 n0 n1 n0 n1 n1 n0 n1 ++ corners n0 n0 n1 n0 n1 n1 n0 n1) 1 5
+      Draws (label 1 1) (unit ++ unit) 1 5
       (drawn 10 1 (255 ∷ []))
+  -- the record that leaves a cell is named, not the one that gave it ink: with no room, with room for one place and for two
+  pub left-by : Draws (label 2 1) (hook ++ close) 2 4 (full 2)
+  pub left-by-close : Draws (label 2 1) (hook ++ close) 2 5 (full 3)
+  pub left-by-none : Draws (label 2 1) (hook ++ close) 2 9 (drawn 4 2 (48 ∷ 16 ∷ []))
+  -- closed by a MoveTo, it counts to that, and closed by the end, to the end
+  pub closed-by-move : Draws (label 2 1) (hook ++ move n9 n9 ++ line n9 n9) 2 5 (full 3)
+  pub closed-by-end : Draws (label 2 1) hook 2 5 (full 3)
+  -- the cell that a MoveTo leaves is that MoveTo's, also after Close
+  pub left-by-move : Draws (label 1 1) (unit ++ move n0 n0) 1 1 (full 5)
+  pub left-by-end : Draws (label 1 1) unit 1 1 (full 5)
+  -- row 1 is inked before row 0: the whole label and row 1 run out at record 5, row 0 alone at the end
+  pub rows-at-once : Draws (label 1 2) lower-first 2 2 (full 5)
+  pub row-0 : Draws (banded NonZero false 1 2 1 0 1) lower-first 1 1 (full 10)
+  pub row-1 : Draws (banded NonZero false 1 2 1 1 2) lower-first 1 1 (full 5)
   -- ---- in bands of so many rows
   -- K1, a row at a time; in twos, up, with pitch 5; two rows of it, up
   pub bands-k1 :
@@ -373,8 +396,8 @@ pub record Trials : Type 0 where
       (0 ∷ 0 ∷ 0 ∷ 0
       ∷ 0 ∷ 255 ∷ 255 ∷ 0 ∷ []))
   -- six cells: room for five is 13 at once and in bands of three rows, but holds what a shorter band has
-  pub at-once : Draws (label 4 3) tall 12 26 full
-  pub threes : InBands 3 (label 4 3) tall 12 26 full
+  pub at-once : Draws (label 4 3) tall 12 26 (full 5)
+  pub threes : InBands 3 (label 4 3) tall 12 26 (full 5)
   pub twos :
       InBands 2 (label 4 3) tall 12 26
       (drawn 5 6
@@ -394,18 +417,24 @@ pub record Trials : Type 0 where
       (0 ∷ 255 ∷ 255 ∷ 0
       ∷ 0 ∷ 255 ∷ 255 ∷ 0
       ∷ 0 ∷ 255 ∷ 255 ∷ 0 ∷ []))
-  pub twos-full : InBands 2 (label 4 3) tall 12 17 full
+  pub twos-full : InBands 2 (label 4 3) tall 12 17 (full 5)
   -- room for one: two cells in the first band, in the last, in none
-  pub first-full : InBands 1 (label 4 3) (corners n1 n0 n3 n0 n3 n1 n1 n1) 12 8 full
-  pub last-full : InBands 1 (label 4 3) (corners n1 n2 n3 n2 n3 n3 n1 n3) 12 8 full
+  pub first-full : InBands 1 (label 4 3) (corners n1 n0 n3 n0 n3 n1 n1 n1) 12 8 (full 5)
+  pub last-full : InBands 1 (label 4 3) (corners n1 n2 n3 n2 n3 n3 n1 n3) 12 8 (full 5)
   pub none-full :
       InBands 1 (label 4 3) (corners n1 n3 n3 n3 n3 n4 n1 n4) 12 8
       (drawn 5 0
       (0 ∷ 0 ∷ 0 ∷ 0
       ∷ 0 ∷ 0 ∷ 0 ∷ 0
       ∷ 0 ∷ 0 ∷ 0 ∷ 0 ∷ []))
+  -- of two full bands the first in rising rows is told of, by its own drawing, also when up
+  pub both-full : InBands 1 (label 1 2) lower-first 2 2 (full 10)
+  pub both-full-up : InBands 1 (banded NonZero true 1 2 1 0 2) lower-first 2 2 (full 10)
+  -- room for one: at once that is too little at record 7; the first band has room, the second runs out at the end
+  pub second-at-once : Draws (label 2 2) (corners n1 n0 n2 n0 n2 n1 n1 n1 ++ corners n0 n1 n1 n1 n1 n2 n0 n2) 4 8 (full 7)
+  pub second-alone : InBands 1 (label 2 2) (corners n1 n0 n2 n0 n2 n1 n1 n1 ++ corners n0 n1 n1 n1 n1 n2 n0 n2) 4 8 (full 10)
   -- the last cell of a lone MoveTo is in the second band: no room for it, and room
-  pub last-cell : InBands 1 (label 1 2) (move n0 n1) 2 3 full
+  pub last-cell : InBands 1 (label 1 2) (move n0 n1) 2 3 (full 1)
   pub counted :
       InBands 1 (label 1 2) (move n0 n1) 2 8
       (drawn 1 1
@@ -493,8 +522,8 @@ pub record Trials : Type 0 where
 
 pub trials : Trials
 unfolding drawInBands bandsFrom
-    draw drawIn oneFull drawRead inked painted byteOf coverUpTo areaAt distinct known cellsOf stored marks spotIn
-    curves.quad curves.cubic curves.along curves.quadPoints curves.doublings curves.cubicPoints curves.curved
+    draw drawIn oneFull firstOf fitting drawRead inked painted byteOf coverUpTo areaAt distinct known cellsOf cellsBy
+    stored storedBy trail penAfter marksBy flatten spotIn curves.quad curves.cubic curves.along curves.quadPoints curves.doublings curves.cubicPoints curves.curved
     lines.line lines.whole lines.walk lines.upright readList readFrom recordFault allPass inputFault sizeFault
     fixedOf commandIn wrapped placement placementOf bounds pointsIn boxOf boxFrom floor ofBits add mul lt neg ofInt
 trials = record {
@@ -631,6 +660,16 @@ trials = record {
   before = refl;
   band-empty = refl;
   full-13 = refl;
+  left-by = refl;
+  left-by-close = refl;
+  left-by-none = refl;
+  closed-by-move = refl;
+  closed-by-end = refl;
+  left-by-move = refl;
+  left-by-end = refl;
+  rows-at-once = refl;
+  row-0 = refl;
+  row-1 = refl;
   room = refl;
   full-repeated = refl;
   bands-k1 = refl;
@@ -644,6 +683,10 @@ trials = record {
   twos-full = refl;
   first-full = refl;
   last-full = refl;
+  both-full = refl;
+  both-full-up = refl;
+  second-at-once = refl;
+  second-alone = refl;
   none-full = refl;
   last-cell = refl;
   counted = refl;

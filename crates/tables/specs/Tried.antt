@@ -3,7 +3,7 @@
 use Prim.Native.Nat.{ℕ}
 use native.Mathlib.Omega.{arith}
 use mathlib.Core.Path.{_≡_, refl}
-use mathlib.Core.List.{List, [], _∷_}
+use mathlib.Core.List.{List, [], _∷_, flatten}
 use lib.Ieee.{ofBits, add, mul, lt, neg, ofInt}
 use lib.ListN.{replicate}
 use Rattle.label.specs.declared.Label.{Label}
@@ -12,7 +12,7 @@ use Rattle.paper.specs.PathList.{commandIn}
 use Rattle.paper.specs.Floats.{fixedOf}
 use Rattle.paper.specs.TurnedAway.{sizeFault, inputFault, allPass, recordFault, readFrom, readList}
 use Rattle.paper.specs.Lines as lines
-use Rattle.paper.specs.Cells.{spotIn, marks, stored, cellsOf, known, distinct}
+use Rattle.paper.specs.Cells.{spotIn, marksBy, trail, penAfter, stored, cellsOf, known, distinct}
 use Rattle.paper.specs.Bytes.{coverUpTo, areaAt, byteOf, painted}
 use Rattle.paper.specs.Drawing.{accepted, oneFull, inked, drawRead, drawIn, draw, band}
 use Rattle.tables.specs.Lists.{rectangle, label}
@@ -39,7 +39,7 @@ pub record Tried : Type 0 where
 pub tried : Tried
 unfolding
     Partition cellsOver draw drawIn oneFull drawRead inked painted byteOf coverUpTo areaAt distinct known cellsOf stored
-    marks spotIn lines.line lines.whole lines.walk lines.upright readList readFrom recordFault allPass inputFault
+    trail penAfter marksBy flatten spotIn lines.line lines.whole lines.walk lines.upright readList readFrom recordFault allPass inputFault
     sizeFault fixedOf commandIn wrapped ofBits add mul lt neg ofInt
 tried = record {
   premise = refl;

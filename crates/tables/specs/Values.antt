@@ -2,7 +2,7 @@
 use Prim.Native.Nat.{ℕ}
 use mathlib.Core.Path.{_≡_, refl}
 use mathlib.Core.Bool.{true, false}
-use mathlib.Core.List.{List, [], _∷_, _++_, map}
+use mathlib.Core.List.{List, [], _∷_, _++_, map, flatten}
 use mathlib.Core.Option as option
 use lib.ListN.{length}
 use lib.IntN.{ℤ, pos, negℤ}
@@ -21,12 +21,12 @@ use Rattle.paper.specs.TurnedAway.{inputFault, afterClose, draws}
 use Rattle.paper.specs.Lines as lines
 use Rattle.paper.specs.Lines.{enter, give}
 use Rattle.paper.specs.Curves as curves
-use Rattle.paper.specs.Cells.{Pair, pairAt, lifted, spotIn, marks, stored, cellsOf, known, distinct}
+use Rattle.paper.specs.Cells.{Pair, pairAt, lifted, spotIn, marksBy, trail, penAfter, stored, cellsOf, storedBy, cellsBy, known, distinct}
 use Rattle.paper.specs.Bytes.{coverUpTo, areaAt, value, byteOf}
-use Rattle.paper.specs.Drawing.{pool, bandsFrom}
+use Rattle.paper.specs.Drawing.{pool, fitting, bandsFrom}
 use Rattle.paper.specs.Placing.{floor, ceil}
 use Rattle.tables.specs.Lists.{−4096·004, −4096, −3, −1·0005, −1, −0·999, −0·5, −0·0039, −0·003, n0}
-use Rattle.tables.specs.Lists.{−0, n0·0001, n0·5, n0·999, n1, n1·0002, n2, n3, n4, n5, n6, n7, n8, n9}
+use Rattle.tables.specs.Lists.{−0, n0·0001, n0·5, n0·999, n1, n1·0002, n1·5, n2, n3, n4, n5, n6, n7, n8, n9}
 use Rattle.tables.specs.Lists.{n10, n11, n12, n13, n14, n17, n19, n31, n39, n46, n58, n94, n117, n140}
 use Rattle.tables.specs.Lists.{n197, n2048, n4096, n4096·0034, n4096·004, n16777216, infinite, notNumber}
 use Rattle.tables.specs.Lists.{affine, banded, label, under, shiftedBy}
@@ -54,6 +54,12 @@ far-right = spot (pos 1048576) (below 1048576)
 
 abbrev far-below : Spot
 far-below = spot (below 1048576) (pos 1048576)
+
+abbrev here : List Pair  -- a place, and two others
+here = pairAt (pos 0) (pos 0) (pos 1) (pos 2) ∷ []
+
+abbrev there : List Pair
+there = pairAt (pos 1) (pos 0) (pos 3) (pos 4) ∷ pairAt (pos 0) (pos 1) (pos 5) (pos 6) ∷ []
 
 abbrev middle : Label  -- the band [1, 3) of four rows
 middle = banded NonZero false 4 4 4 1 3
@@ -379,6 +385,13 @@ pub record Values : Type 0 where
       ∷ give (pos 1) (pos 2) ∷ enter (pos 0) (pos 1) ∷ give (pos 1) (pos 2) ∷ enter (pos 0) (below 1)
       ∷ give (pos 1) (pos 2) ∷ enter (pos 2) (pos 0) ∷ give (pos 3) (pos 4) ∷ [])
       ≡ pairAt (below 1) (pos 0) (pos 1) (pos 2) ∷ pairAt (pos 2) (pos 0) (pos 3) (pos 4) ∷ []
+  -- MoveTo (0.5,0), LineTo (0.5,0.5), LineTo (1.5,0.5), Close, the end: what each stores
+  pub cells-by :
+      cellsBy (label 2 1) (MoveTo (at n0·5 n0) ∷ LineTo (at n0·5 n0·5) ∷ LineTo (at n1·5 n0·5) ∷ Close ∷ [])
+      ≡ [] ∷ []
+      ∷ (pairAt (pos 0) (pos 0) (pos 128) (pos 32768) ∷ [])
+      ∷ (pairAt (pos 1) (pos 0) (below 65) (below 8320) ∷ [])
+      ∷ (pairAt (pos 0) (pos 0) (below 63) (below 24192) ∷ []) ∷ []
   -- a place is a column and a row, whatever its sums
   pub places :
       distinct (pairAt (below 1) (pos 0) (pos 1) (pos 1) ∷ pairAt (pos 0) (pos 0) (pos 1) (pos 1)
@@ -412,6 +425,8 @@ pub record Values : Type 0 where
       (pool (label 4 3) 2 ≡ 0) × (pool (label 4 3) 3 ≡ 0) × (pool (label 4 3) 6 ≡ 0) × (pool (label 4 3) 7 ≡ 1)
       × (pool (label 4 3) 10 ≡ 1) × (pool (label 4 3) 11 ≡ 2) × (pool (label 4 3) 65538 ≡ 16383)
       × (pool (label 4 3) 65539 ≡ 16384) × (pool (label 4 3) 65543 ≡ 16384)
+  -- lists of no, one, the same and two other places: how many of them 0, 1, 2 and 3 places hold
+  pub fits : map (λ (room : ℕ). fitting room [] ([] ∷ here ∷ here ∷ there ∷ [])) (0 ∷ 1 ∷ 2 ∷ 3 ∷ []) ≡ 1 ∷ 3 ∷ 3 ∷ 4 ∷ []
   -- bands of 2 rows of a label of 5, from row 0 and from row 1 to 3
   pub bands-of-2 :
       bandsFrom 5 2 (label 4 5) 0
@@ -431,8 +446,8 @@ pub record Values : Type 0 where
 
 pub values : Values
 unfolding wrapped commandIn inputFault fixedOf lines.whole lines.walk lines.upright lines.line curves.doublings
-    curves.quadPoints curves.curved curves.cubicPoints curves.along curves.quad curves.cubic stored marks spotIn
-    cellsOf distinct known coverUpTo areaAt byteOf bandsFrom floor ofBits add mul neg
+    curves.quadPoints curves.curved curves.cubicPoints curves.along curves.quad curves.cubic stored storedBy trail penAfter marksBy
+    flatten spotIn cellsOf cellsBy fitting distinct known coverUpTo areaAt byteOf bandsFrom floor ofBits add mul neg
 values = record {
   wraps = (refl, refl, refl, refl, refl, refl);
   divides = (refl, refl, refl, refl, refl);
@@ -522,11 +537,13 @@ values = record {
   sums-wrap = refl;
   parts = refl;
   one-left = refl;
+  cells-by = refl;
   places = refl;
   pixels = (refl, refl, refl, refl, refl);
   nonzero = (refl, refl, refl, refl, refl, refl, refl, refl, refl, refl, refl, refl, refl, refl, refl, refl);
   evenodd = (refl, refl, refl, refl, refl, refl, refl, refl, refl, refl, refl, refl, refl, refl, refl, refl);
   pools = (refl, refl, refl, refl, refl, refl, refl, refl, refl);
+  fits = refl;
   bands-of-2 = refl;
   bands-of-part = refl;
   bands-keep = refl;

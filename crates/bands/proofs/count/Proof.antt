@@ -8,7 +8,7 @@ use Rattle.label.proofs.Pouring.{pours}
 use Rattle.claims.specs.Bands.{bandOf}
 use Rattle.bands.specs.InBands.{bandEnd}
 use Rattle.bands.proofs.Rows.{band-sized}
-use Rattle.bands.proofs.Counting.{Counting, counting-none, counting-full, counting-more, counted-all, counted-full}
+use Rattle.bands.proofs.Counting.{Counting, counting-none, counting-more, counted-all, counted-full}
 use Rattle.bands.proofs.count.Statement.{statement}
 use Rattle.bands.proofs.count.Tie as tie
 use Rattle.bands.proofs.count.Reads as reads
@@ -23,7 +23,7 @@ abbrev μ-loop : tie.MeasureT-loop
 μ-loop list l step words₀ at₀ total₀ words at total = l .end - at
 
 -- one band more
-more : (c : tie.After-known-told Inv-loop μ-loop)
+more : (c : tie.After-known-told2 Inv-loop μ-loop)
     → let w = c .before .before .before .before .before .before .before .before .before .before in
     let a = w .before .before .before .args in
     Counting (a .l) (a .step) (a .list .now) (length (a .words .now)) (bandEnd (a .step) (w .loop .at) (a .l .end)) (w .loop .total + c .before .n .given .0 .0)
@@ -59,21 +59,21 @@ pour-requires c κs =
     _
     (omega (arith, i .0, i .1 .from, a .pre .1 .0))
 
-enum-told : tie.Need-enum-told Inv-loop μ-loop
-enum-told c = search needs
+enum-known-i : tie.Need-enum-known-i Inv-loop μ-loop
+enum-known-i c = search needs
 
 same-length : tie.Need-same-length Inv-loop μ-loop
 same-length c = search needs
 
 returns : tie.Need-returns Inv-loop μ-loop
 returns c =
-    let p = c .before .before .before .before in
+    let p = c .before .before .before .before .before in
     let e = p .before .before in
     let t = e .before in
     let w = t .before .before in
     let a = w .before .before .before in
-    counted-full _ _ _ _
-    (counting-full (a .args .l) (a .pre .0) _ _ _ (a .pre .1 .1) _ _ (w .loop .inv .1) (t .if1 .taken) _ _ _ (w .loop .inv .0) (rw (e .band-end .ensures) at (p .pour .ensures)) (c .enum-told .given .1))
+    counted-full (a .args .l) (a .pre .0) _ _ _ (a .pre .1 .1) _ _ (w .loop .inv .1) (t .if1 .taken) _ _ _ (w .loop .inv .0) (rw (e .band-end .ensures) at (p .pour .ensures)) _
+    (c .before .i .given .1)
 
 enum-known-n : tie.Need-enum-known-n Inv-loop μ-loop
 enum-known-n c = search needs
@@ -116,7 +116,7 @@ count-spec =
     loop-holds
     band-end-requires
     pour-requires
-    enum-told
+    enum-known-i
     same-length
     returns
     enum-known-n

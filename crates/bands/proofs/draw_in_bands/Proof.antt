@@ -45,8 +45,9 @@ ink-requires c κs =
     let e = r .before .before .before .before .before in
     let k = e .before .before in
     let a = k .before .before .before .before in
-    let f = fitting (a .args .l) (length (a .args .list .now)) (length (a .args .mask .now)) (length (a .args .words .now)) (sym (k .check .ensures) ∙ e .enum-told .given .1) in
-    (f .sized, (f .lent, omega (arith, r .rows-of .ensures)))
+    let q = sym (k .check .ensures) ∙ e .enum-told .given .1 in
+    let f = fitting (a .args .l) (length (a .args .list .now)) (length (a .args .mask .now)) (length (a .args .words .now)) q in
+    (f .sized, (f .lent, (omega (arith, r .rows-of .ensures), short-list (a .args .l) _ (length (a .args .mask .now)) (length (a .args .words .now)) q)))
 
 returns : tie.Need-returns
 returns c =

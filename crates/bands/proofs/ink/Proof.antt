@@ -15,11 +15,19 @@ use Rattle.storage.proofs.wipe.Reads as wipe-reads
 count-requires : tie.Need-count-requires
 count-requires c κs = search needs
 
-enum-told : tie.Need-enum-told
-enum-told c = search needs
+enum-known-i : tie.Need-enum-known-i
+enum-known-i c = search needs
 
 wipe-requires : tie.Need-wipe-requires
 wipe-requires c κs = search needs
+
+cast-t17 : tie.Need-cast-t17
+cast-t17 c =
+    let i = c .before .before .before .before .before in
+    let k = i .before .before .before .before in
+    let a = k .before .before .before .before .before in
+    let h = k .count .ensures .early _ (i .i .given .1) in
+    omega (arith, a .pre .1 .1 .1)
 
 enum-known-n : tie.Need-enum-known-n
 enum-known-n c = search needs
@@ -28,13 +36,13 @@ paint-requires : tie.Need-paint-requires
 paint-requires c κs =
     let k = c .before .before .before .before .before .before .before in
     let a = k .before .before .before .before .before in
-    (a .pre .0, (record { lines = a .pre .1 .0 .lines; heads = omega (arith, a .pre .1 .0 .heads, k .count .kept) }, a .pre .1 .1))
+    (a .pre .0, (record { lines = a .pre .1 .0 .lines; heads = omega (arith, a .pre .1 .0 .heads, k .count .kept) }, a .pre .1 .1 .0))
 
 wipe-requires-2 : tie.Need-wipe-requires-2
 wipe-requires-2 c κs = search needs
 
-cast-t23 : tie.Need-cast-t23
-cast-t23 c =
+cast-t25 : tie.Need-cast-t25
+cast-t25 c =
     let n = c .before .before .before .before .before .before .before .before .before .before .before .before in
     let k = n .before .before .before .before in
     let h = k .count .ensures .few _ (n .n .given .1) in
@@ -46,11 +54,11 @@ same-length c = search needs
 returns : tie.Need-returns
 returns c =
     let w = c .before .before in
-    let f = w .before .before in
-    let k = f .before .before .before .before in
+    let i = w .before .before .before in
+    let k = i .before .before .before .before in
     let a = k .before .before .before .before .before in
     let same : length (k .count .last .1 .1 .1 .0) ≡ length (a .args .words .now) = omega (arith, k .count .kept) in
-    inked-full _ _ _ _ _ _ (k .count .last .1 .1 .1 .0) _ (w .wipe .ensures) same _ (f .enum-told .given .1) (k .count .ensures)
+    inked-full _ _ _ _ _ _ (k .count .last .1 .1 .1 .0) _ (w .wipe .ensures) same _ _ (i .i .given .1) (k .count .ensures)
 
 same-length-2 : tie.Need-same-length-2
 same-length-2 c = search needs
@@ -74,12 +82,13 @@ ink-spec =
     tie.close
     (tie.spec
     count-requires
-    enum-told
+    enum-known-i
     wipe-requires
+    cast-t17
     enum-known-n
     paint-requires
     wipe-requires-2
-    cast-t23
+    cast-t25
     same-length
     returns
     same-length-2

@@ -3,7 +3,7 @@ use mathlib.Core.Path.{sym, _∙_}
 use native.Mathlib.Omega.{arith}
 use lib.ListN.{length}
 use Rattle.label.proofs.Sizes.{fitting, short-list}
-use Rattle.label.proofs.Pouring.{pours, few-cells}
+use Rattle.label.proofs.Pouring.{pours, few-cells, early-record}
 use Rattle.label.proofs.Celling.{celled-turned, celled-faulty, celled-full, celled-cells}
 use borrow.Author.Needs.{needs}
 use Rattle.label.proofs.cells.Statement.{statement}
@@ -44,24 +44,37 @@ pour-requires c κs =
     let f = fitting (a .args .l) (length (a .args .list .now)) (a .args .mask) (length (a .args .words .now)) (sym (k .check .ensures) ∙ e .enum-told .given .1) in
     pours (a .args .l) (f .sized) _ (f .lent .heads)
 
-enum-told-2 : tie.Need-enum-told-2
-enum-told-2 c = search needs
+enum-known-i : tie.Need-enum-known-i
+enum-known-i c = search needs
 
 wipe-requires : tie.Need-wipe-requires
 wipe-requires c κs = search needs
 
+cast-t25 : tie.Need-cast-t25
+cast-t25 c =
+    let i = c .before .before .before .before .before in
+    let p = i .before .before .before .before in
+    let e = p .before .before .before .before .before .before in
+    let k = e .before .before in
+    let a = k .before .before .before in
+    let q = sym (k .check .ensures) ∙ e .enum-told .given .1 in
+    let f = fitting (a .args .l) (length (a .args .list .now)) (a .args .mask) (length (a .args .words .now)) q in
+    let b = short-list (a .args .l) _ (a .args .mask) (length (a .args .words .now)) q in
+    let h = early-record (a .args .l) (f .sized) _ _ _ _ b (i .i .given .1) (p .pour .ensures .within) in
+    omega arith
+
 enum-known-count : tie.Need-enum-known-count
 enum-known-count c = search needs
 
-cast-t24 : tie.Need-cast-t24
-cast-t24 c =
+cast-t26 : tie.Need-cast-t26
+cast-t26 c =
     let n = c .before in
     let p = n .before .before .before .before in
     let e = p .before .before .before .before .before .before in
     let k = e .before .before in
     let a = k .before .before .before in
     let f = fitting (a .args .l) (length (a .args .list .now)) (a .args .mask) (length (a .args .words .now)) (sym (k .check .ensures) ∙ e .enum-told .given .1) in
-    let h = few-cells (a .args .l) (f .sized) _ _ _ (n .count .given .1) (p .pour .ensures .within) in
+    let h = few-cells (a .args .l) (f .sized) _ _ _ _ (n .count .given .1) (p .pour .ensures .within) in
     omega arith
 
 returns : tie.Need-returns
@@ -79,8 +92,8 @@ same-length c = search needs
 returns-3 : tie.Need-returns-3
 returns-3 c =
     let w = c .before .before in
-    let t = w .before .before in
-    let p = t .before .before .before .before in
+    let i = w .before .before .before in
+    let p = i .before .before .before .before in
     let n = p .before .before .before in
     let j = n .before .before in
     let e = j .before in
@@ -88,7 +101,7 @@ returns-3 c =
     let a = k .before .before .before in
     let q = sym (k .check .ensures) ∙ e .enum-told .given .1 in
     let f = fitting (a .args .l) (length (a .args .list .now)) (a .args .mask) (length (a .args .words .now)) q in
-    celled-full _ _ _ _ q (f .sized) _ (sym (j .judge .ensures) ∙ n .n .given .1) _ _ (p .pour .ensures) (t .enum-told2 .given .1) _ (w .wipe .ensures)
+    celled-full _ _ _ _ q (f .sized) _ (sym (j .judge .ensures) ∙ n .n .given .1) _ _ (p .pour .ensures) _ (i .i .given .1) _ (w .wipe .ensures)
 
 same-length-2 : tie.Need-same-length-2
 same-length-2 c = search needs
@@ -116,10 +129,11 @@ cells-spec =
     enum-known-why-2
     enum-known-n
     pour-requires
-    enum-told-2
+    enum-known-i
     wipe-requires
+    cast-t25
     enum-known-count
-    cast-t24
+    cast-t26
     returns
     returns-2
     same-length

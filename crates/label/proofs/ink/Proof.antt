@@ -1,6 +1,6 @@
 -- What was poured is told by the answer: a full pool is 13, else the rows are swept; the words are wiped either way.
 use native.Mathlib.Omega.{arith}
-use Rattle.label.proofs.Pouring.{pours, few-cells, sweeps, inked-full, inked-cells}
+use Rattle.label.proofs.Pouring.{pours, few-cells, early-record, sweeps, inked-full, inked-cells}
 use borrow.Author.Needs.{needs}
 use Rattle.label.proofs.ink.Statement.{statement}
 use Rattle.label.proofs.ink.Tie as tie
@@ -16,13 +16,21 @@ sub-rows c = search needs
 pour-requires : tie.Need-pour-requires
 pour-requires c κs =
     let a = c .before .before .before .before .before in
-    pours (a .args .l) (a .pre .0) _ (a .pre .1 .heads)
+    pours (a .args .l) (a .pre .0) _ (a .pre .1 .0 .heads)
 
-enum-told : tie.Need-enum-told
-enum-told c = search needs
+enum-known-i : tie.Need-enum-known-i
+enum-known-i c = search needs
 
 wipe-requires : tie.Need-wipe-requires
 wipe-requires c κs = search needs
+
+cast-t18 : tie.Need-cast-t18
+cast-t18 c =
+    let i = c .before .before .before .before .before in
+    let p = i .before .before .before .before in
+    let a = p .before .before .before .before .before .before in
+    let h = early-record (a .args .l) (a .pre .0) _ _ _ _ (a .pre .1 .1) (i .i .given .1) (p .pour .ensures .within) in
+    omega arith
 
 enum-known-n : tie.Need-enum-known-n
 enum-known-n c = search needs
@@ -32,17 +40,17 @@ sweep-requires c κs =
     let n = c .before .before .before in
     let p = n .before .before .before .before in
     let a = p .before .before .before .before .before .before in
-    sweeps (a .args .l) (a .pre .0) 0 _ _ _ _ _ _ (n .n .given .1) (p .pour .ensures) (a .pre .1)
+    sweeps (a .args .l) (a .pre .0) 0 _ _ _ _ _ _ (n .n .given .1) (p .pour .ensures) (a .pre .1 .0)
 
 wipe-requires-2 : tie.Need-wipe-requires-2
 wipe-requires-2 c κs = search needs
 
-cast-t24 : tie.Need-cast-t24
-cast-t24 c =
+cast-t26 : tie.Need-cast-t26
+cast-t26 c =
     let n = c .before .before .before .before .before .before .before .before .before .before in
     let p = n .before .before .before .before in
     let a = p .before .before .before .before .before .before in
-    let h = few-cells (a .args .l) (a .pre .0) _ _ _ (n .n .given .1) (p .pour .ensures .within) in
+    let h = few-cells (a .args .l) (a .pre .0) _ _ _ _ (n .n .given .1) (p .pour .ensures .within) in
     omega arith
 
 same-length : tie.Need-same-length
@@ -51,10 +59,10 @@ same-length c = search needs
 returns : tie.Need-returns
 returns c =
     let w = c .before .before in
-    let f = c .before .before .before .before in
-    let p = f .before .before .before .before in
+    let i = w .before .before .before in
+    let p = i .before .before .before .before in
     let a = p .before .before .before .before .before .before in
-    inked-full (a .args .l) (a .pre .0) _ _ _ _ _ _ (f .enum-told .given .1) (p .pour .ensures) _ (w .wipe .ensures)
+    inked-full (a .args .l) (a .pre .0) _ _ _ _ _ _ _ (i .i .given .1) (p .pour .ensures) _ (w .wipe .ensures)
 
 same-length-2 : tie.Need-same-length-2
 same-length-2 c = search needs
@@ -77,12 +85,13 @@ ink-spec =
     (tie.spec
     sub-rows
     pour-requires
-    enum-told
+    enum-known-i
     wipe-requires
+    cast-t18
     enum-known-n
     sweep-requires
     wipe-requires-2
-    cast-t24
+    cast-t26
     same-length
     returns
     same-length-2
