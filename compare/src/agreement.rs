@@ -1,10 +1,10 @@
 //! The prepared pieces held against each other and zeno over many labels: the cells that the oracle
 //! gathers, its runs, bands cut from whole labels, and what refusals leave.
 
-use crate::drawing::{at_a_boundary, ordinary};
+use crate::drawing::{at_a_boundary, ordinary, Drawing};
 use crate::driver;
 use crate::numbers::Dice;
-use crate::oracle::{self, Fill, HeapStorage, Label, Point, Transform};
+use crate::oracle::{self, Command, Fill, HeapStorage, Label, Point, Transform};
 use crate::paths::SMALL;
 use crate::pool::PER_ROW;
 use crate::reading;
@@ -61,6 +61,19 @@ fn small_labels_paint_the_same_by_cells_and_by_zeno() {
     }
 }
 
+fn label_of<'a>(drawing: &Drawing, path: &'a [Command]) -> Label<'a> {
+    Label {
+        path,
+        transform: drawing.transform,
+        offset: drawing.offset,
+        fill: drawing.fill,
+        up: drawing.up,
+        width: drawing.width,
+        height: drawing.height,
+        pitch: drawing.pitch,
+    }
+}
+
 #[test]
 fn random_labels_paint_the_same_by_cells_and_by_zeno() {
     let mut dice = Dice::new(8);
@@ -69,17 +82,35 @@ fn random_labels_paint_the_same_by_cells_and_by_zeno() {
         let Ok(path) = reading::judge(&drawing) else {
             continue;
         };
-        assert_cells_paint_the_mask(&Label {
-            path: &path,
-            transform: drawing.transform,
-            offset: drawing.offset,
-            fill: drawing.fill,
-            up: drawing.up,
-            width: drawing.width,
-            height: drawing.height,
-            pitch: drawing.pitch,
-        });
+        assert_cells_paint_the_mask(&label_of(&drawing, &path));
     }
+}
+
+/// Whatever room there is, the record that stores into one place too many is the one in whose drawing
+/// zeno's storage comes to hold one cell too many.
+#[test]
+fn records_are_counted_as_zeno_counts_cells() {
+    const MOST: usize = 200;
+    let mut dice = Dice::new(47);
+    let mut refused = 0;
+    for _ in 0..6000 {
+        let drawing = ordinary(&mut dice);
+        let Ok(path) = reading::judge(&drawing) else {
+            continue;
+        };
+        let label = label_of(&drawing, &path);
+        let since = oracle::inked(&label).unwrap().since;
+        let given = oracle::given(&label).unwrap();
+        for room in 0..=since.len().min(MOST) {
+            let too_many = given.iter().find(|given| given.held > room);
+            let by_zeno = too_many.map(|given| (13, given.by));
+            let judged = reading::judge_room(&since, label.height + 4 * room, label.height);
+            let by_the_rule = judged.err().map(|refusal| (refusal.number, refusal.index));
+            assert_eq!(by_the_rule, by_zeno, "{}", drawing.shown());
+            refused += usize::from(by_zeno.is_some());
+        }
+    }
+    assert!(refused > 50_000, "{refused}");
 }
 
 /// A storage that keeps what it was given before a drawing, so that zeno sweeps that.

@@ -167,7 +167,7 @@ fn shares(all: &[Timed]) {
     println!("\nWhere the time of the first table goes. Judging: the same list with a byte too");
     println!("many, refused after its last record. Wiping: an empty list and no width. Path: a");
     println!(
-        "place too few, refused when all is drawn, less judging and wiping. Sweep: the rest.\n"
+        "place too few, refused at the record of the last, less judging and wiping. Sweep: the rest.\n"
     );
     println!(
         "| labels | zeno's clearing | path | sweep | port's judging | path | sweep | wiping |"

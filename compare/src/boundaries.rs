@@ -4,6 +4,7 @@
 
 mod lists;
 mod orders;
+mod rooms;
 mod sizes;
 
 use crate::drawing::Drawing;
@@ -23,6 +24,7 @@ pub fn table() -> Vec<Boundary> {
     let mut table = sizes::table();
     table.extend(lists::table());
     table.extend(orders::table());
+    table.extend(rooms::table());
     table
 }
 

@@ -2,6 +2,7 @@
 
 mod filled;
 mod limits;
+mod no_room;
 mod old;
 mod shown;
 mod simpler;
@@ -12,8 +13,11 @@ pub use filled::{every_order, long_rows_filled, orders_in_all, rows_filled};
 pub use limits::{
     at_the_cap, at_the_limits, in_bands_at_the_cap, in_bands_of_full_rows, with_just_room,
 };
+pub use no_room::{
+    every_short_list, no_room_at_once, no_room_for_a_band, no_room_in_bands, short_lists_in_all,
+};
 pub use old::{soil, soil_words};
-pub use shown::floats_shown;
+pub use shown::{floats_shown, rule_shown};
 pub use simpler::simpler_floats;
 pub use way::{any_step, with_room_for_bands, Way};
 pub use wild::wild;

@@ -3,7 +3,9 @@
 use std::ops::Range;
 
 use crate::drawing::{Drawing, Way};
-use crate::oracle::{self, Bounds, CellAt, Command, Label, Origin, Placement, Transform, Vector};
+use crate::oracle::{
+    self, Bounds, CellAt, Command, Given, Inked, Label, Origin, Placement, Transform, Vector,
+};
 use crate::reading::{self, Refusal};
 
 /// A whole label drawn by zeno.
@@ -40,12 +42,17 @@ pub fn whole(drawing: &Drawing) -> Result<Whole, Refusal> {
     })
 }
 
-/// The pairs that are stored for the whole label of a call, in zeno's order; all but 13 may refuse
-/// it.
-pub fn pairs(drawing: &Drawing) -> Result<Vec<CellAt>, Refusal> {
+/// What is stored for the whole label of a call, in zeno's order; all but 13 may refuse it.
+pub fn given(drawing: &Drawing) -> Result<Vec<Given>, Refusal> {
     let path = reading::judge(drawing)?;
     let label = label_of(drawing, &path, false, drawing.width);
-    Ok(oracle::pairs(&label).expect("an accepted label is within reach"))
+    Ok(oracle::given(&label).expect("an accepted label is within reach"))
+}
+
+/// The pairs alone.
+pub fn pairs(drawing: &Drawing) -> Result<Vec<CellAt>, Refusal> {
+    let given = given(drawing)?;
+    Ok(given.into_iter().map(|given| given.pair).collect())
 }
 
 /// What a call draws: the whole label, and of its cells the band's.
@@ -63,17 +70,21 @@ pub fn drawn(drawing: &Drawing) -> Result<Drawn, Refusal> {
 }
 
 /// Draws a call, all refusals judged, 13 for each band of its way. A call's rows are cut from zeno's
-/// whole label.
+/// whole label: a band stores what the label stores in the band's rows, record by record (the tests
+/// of `alone` hold zeno to that).
 pub fn drawn_in(drawing: &Drawing, way: Way) -> Result<Drawn, Refusal> {
     let path = reading::judge(drawing)?;
-    let (whole, cells) = painted(drawing, &path);
-    let cells = cells_of_band(cells, drawing.first, drawing.end);
+    let Inked { mask, cells, since } = inked(drawing, &path);
+    let own = places_in(&cells, drawing.first..drawing.end);
+    let since = &since[own.clone()];
+    let cells = counted_from(drawing.first, &cells[own]);
     for band in way.bands(drawing.rows()) {
         let rows = band.len();
-        reading::judge_room(places_in(&cells, band), drawing.words.len(), rows)?;
+        let since = &since[places_in(&cells, band)];
+        reading::judge_room(since, drawing.words.len(), rows)?;
     }
     Ok(Drawn {
-        whole,
+        whole: mask,
         records: path.len(),
         cells,
     })
@@ -82,27 +93,28 @@ pub fn drawn_in(drawing: &Drawing, way: Way) -> Result<Drawn, Refusal> {
 /// zeno's label of a call with this path in the place of its own, whose points must pass: height rows
 /// of width bytes, not up, and every cell.
 pub fn painted(drawing: &Drawing, path: &[Command]) -> (Vec<u8>, Vec<CellAt>) {
+    let Inked { mask, cells, .. } = inked(drawing, path);
+    (mask, cells)
+}
+
+fn inked(drawing: &Drawing, path: &[Command]) -> Inked {
     let label = label_of(drawing, path, false, drawing.width);
-    oracle::painted_cells(&label).expect("an accepted label is within reach")
+    oracle::inked(&label).expect("an accepted label is within reach")
 }
 
-/// How many of the cells, rows rising, lie in these rows.
-pub fn places_in(cells: &[CellAt], rows: Range<usize>) -> usize {
+/// Which of the cells, rows rising, lie in these rows.
+pub fn places_in(cells: &[CellAt], rows: Range<usize>) -> Range<usize> {
     let before = |row: usize| cells.partition_point(|cell| (cell.row as usize) < row);
-    before(rows.end) - before(rows.start)
+    before(rows.start)..before(rows.end)
 }
 
-fn cells_of_band(cells: Vec<CellAt>, first: usize, end: usize) -> Vec<CellAt> {
-    let (first, end) = (first as i32, end as i32);
-    let in_band = cells
-        .into_iter()
-        .filter(|cell| (first..end).contains(&cell.row));
-    in_band
-        .map(|cell| CellAt {
-            row: cell.row - first,
-            ..cell
-        })
-        .collect()
+/// The same cells, rows counted from this one.
+fn counted_from(first: usize, cells: &[CellAt]) -> Vec<CellAt> {
+    let counted = |cell: &CellAt| CellAt {
+        row: cell.row - first as i32,
+        ..*cell
+    };
+    cells.iter().map(counted).collect()
 }
 
 /// The outcome of a call. The words are zero after 0 and 13, and as they were after another number.

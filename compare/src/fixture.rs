@@ -1,7 +1,7 @@
 //! Stored answers for a program in another language to replay; `compare fixture OUT` writes them.
 //! Where the number is 0 they are zeno's. Zeno refuses nothing: every other number is the reading's,
-//! which for 13 counts zeno's cells. All numbers are little-endian; floats are IEEE 754 binary32 by
-//! their bits.
+//! which for 13 counts zeno's cells record by record. All numbers are little-endian; floats are IEEE
+//! 754 binary32 by their bits.
 //!
 //! | field | bytes | what it is |
 //! |---|---|---|
@@ -215,15 +215,17 @@ mod tests {
         assert!(by_checksum > 20, "{by_checksum}");
     }
 
-    /// Records that draw behind a Close stand in many places, of drawings and of placements.
+    /// Records that draw behind a Close stand in many places, of drawings and of placements, and so do
+    /// records that are too much for a pool.
     #[test]
-    fn drawing_behind_a_close_is_in_the_file() {
+    fn records_at_fault_stand_anywhere_in_the_file() {
         let fixture = fixture();
         let mut reader = Reader(&fixture.bytes[MAGIC.len() + 4..]);
-        let mut of_drawings = HashSet::new();
+        let (mut of_drawings, mut without_room) = (HashSet::new(), HashSet::new());
         for _ in 0..fixture.drawings {
             let [number, index, ..] = reader.drawing();
             of_drawings.extend((number == 18).then_some(index));
+            without_room.extend((number == 13).then_some(index));
         }
         reader.number();
         let mut of_placements = HashSet::new();
@@ -231,7 +233,7 @@ mod tests {
             let [number, index] = reader.placing();
             of_placements.extend((number == 18).then_some(index));
         }
-        for indices in [of_drawings, of_placements] {
+        for indices in [of_drawings, of_placements, without_room] {
             assert!((2..=6).all(|index| indices.contains(&index)), "{indices:?}");
         }
     }

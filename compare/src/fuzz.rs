@@ -1,17 +1,18 @@
 //! Damaged and random calls thrown at the port, with marks around all that is lent or, every other
-//! time, blocks of the heap that fit exactly. Zeno is not asked, so that this runs under a memory
-//! checker too:
+//! time, blocks of the heap that fit exactly. Zeno is asked only where 13 is answered, so that this
+//! runs under a memory checker too:
 //!
 //!     valgrind --error-exitcode=1 target/compare/release/compare fuzz --seconds 300
 
 use std::collections::BTreeMap;
 use std::time::{Duration, Instant};
 
-use crate::face;
+use crate::face::{self, Drawn};
 use crate::kinds::calls::{agree_on_answers, agree_on_masks, answer_of, drawn_in, keeps, Called};
 use crate::kinds::SEEKING;
 use crate::runs::Stopped;
 use compare::drawing::{any_step, soil, wild, Drawing, Way};
+use compare::driver;
 use compare::flags::Flags;
 use compare::lent::{Around, Lent, BYTE_MARK};
 use compare::numbers::Dice;
@@ -145,8 +146,8 @@ fn draw_twice(drawing: &Drawing, way: Way, around: Around, seed: u64) -> Result<
     Ok(once)
 }
 
-/// Draws and judges what is left: every refusal but 13 by the reading, everything else by the rules
-/// for what a call leaves.
+/// Draws and judges what is left: every refusal but 13 by the reading, 13 by zeno's cells, everything
+/// else by the rules for what a call leaves.
 fn draw(drawing: &Drawing, way: Way, around: Around) -> Result<Called, String> {
     let called = drawn_in(drawing, way, around)?;
     let answer = called.answer;
@@ -154,7 +155,7 @@ fn draw(drawing: &Drawing, way: Way, around: Around) -> Result<Called, String> {
         Err(Refusal { number, index }) => {
             agree_on_answers(&answer, &answer_of(number, index, 0, 0))?;
         }
-        Ok(_) if answer.number == 13 => agree_on_answers(&answer, &answer_of(13, 0, 0, 0))?,
+        Ok(_) if answer.number == 13 => agree_on_answers(&answer, &without_room(drawing, way)?)?,
         Ok(path) => {
             let cells = answer.cells as usize;
             agree_on_answers(&answer, &answer_of(0, 0, path.len(), cells))?;
@@ -165,6 +166,14 @@ fn draw(drawing: &Drawing, way: Way, around: Around) -> Result<Called, String> {
     }
     judge_loans(drawing, &called)?;
     Ok(called)
+}
+
+/// The refusal of a call that lacks nothing but room.
+fn without_room(drawing: &Drawing, way: Way) -> Result<Drawn, String> {
+    match driver::drawn_in(drawing, way) {
+        Err(Refusal { number, index }) => Ok(answer_of(number, index, 0, 0)),
+        Ok(_) => Err("the port answers 13, zeno's cells have room".to_string()),
+    }
 }
 
 /// How many places the pools of all bands hold together.

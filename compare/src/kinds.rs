@@ -11,6 +11,7 @@ pub mod in_bands;
 pub mod lists;
 pub mod lost_moves;
 pub mod maps;
+pub mod no_room;
 pub mod placements;
 pub mod stores;
 

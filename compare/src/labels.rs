@@ -113,9 +113,50 @@ fn k6_and_k7_past_a_side() {
 fn k8_lone_move_to() {
     let mut drawing = Drawing::plain(&[Command::MoveTo(at(0.0, 0.0))], 1, 1);
     assert_eq!(answer(&driver::outcome(&drawing)), (0, &[0][..], 1, 1));
-    drawing.words.truncate(1);
-    assert_eq!(refusal(&drawing), (13, 0));
-    assert_eq!(driver::outcome(&drawing).words, [0]);
+    for words in [4, 1] {
+        drawing.words.truncate(words);
+        assert_eq!(refusal(&drawing), (13, 1));
+        assert_eq!(driver::outcome(&drawing).words, vec![0; words]);
+    }
+}
+
+/// The records that store into another place than all before them, one for each place: the record
+/// that leaves a cell counts, and behind the last the end.
+#[test]
+fn a_place_is_stored_when_its_cell_is_left() {
+    let storing = |path: &[Command], width, height| {
+        let mut since = oracle::inked(&label(path, width, height)).unwrap().since;
+        since.sort_unstable();
+        since
+    };
+    let moved = [Command::MoveTo(at(0.0, 0.0))];
+    assert_eq!(storing(&moved, 1, 1), [1]);
+    let level = closed(&[(0.5, 0.0), (0.5, 0.5), (1.5, 0.5)]);
+    assert_eq!(storing(&level, 2, 1), [2, 3]);
+    let square = rectangle(0.0, 0.0, 1.0, 1.0);
+    assert_eq!(storing(&square, 1, 1), [5]);
+    assert_eq!(storing(&[&square[..], &moved].concat(), 1, 1), [5]);
+    assert_eq!(storing(&[&square[..4], &moved].concat(), 1, 1), [4]);
+    assert_eq!(storing(&[&square[..], &moved].concat(), 2, 1), [2, 5]);
+    assert_eq!(storing(&rectangle(1.0, 1.0, 3.0, 2.0), 4, 3), [2, 5]);
+}
+
+/// K1 with room for one place, and the bands of "In bands".
+#[test]
+fn thirteen_names_a_record() {
+    let mut k1 = Drawing::plain(&rectangle(1.0, 1.0, 3.0, 2.0), 4, 3);
+    k1.words.truncate(10);
+    assert_eq!(refusal(&k1), (13, 5));
+    let mut bar = Drawing::plain(&rectangle(0.0, 0.0, 2.0, 4.0), 3, 4);
+    bar.words.truncate(20);
+    let answer = |way| {
+        let outcome = driver::outcome_in(&bar, way);
+        (outcome.number, outcome.index)
+    };
+    assert_eq!(answer(Way::AtOnce), (13, 4));
+    assert_eq!(answer(Way::InBands(3)), (13, 4));
+    assert_eq!(answer(Way::InBands(2)), (0, 0));
+    assert_eq!(answer(Way::InBands(1)), (0, 0));
 }
 
 /// A whole pixel wound backwards has v = −131,072, one wound forwards twice has 262,144.

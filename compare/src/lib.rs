@@ -4,17 +4,18 @@
 //! | module | what it holds |
 //! |---|---|
 //! | `zeno` | zeno's three files, unchanged, and what they import |
-//! | `oracle` | safe functions over zeno: masks, cells, runs, bounds, placements |
+//! | `oracle` | safe functions over zeno: masks, cells and the commands that store them, runs, bounds, placements |
 //! | `numbers` | the dice, and numbers of every character |
 //! | `order` | the orders in which a row's places are filled |
 //! | `list` | path lists: written as bytes, told in words, made simpler |
 //! | `paths` | paths of every character, exhaustive small ones, text, large ones, rows filled in order, damaged lists |
-//! | `drawing` | one call of a drawing; calls drawn from the dice, at boundaries, at limits, in bands, of rows filled in order, wild ones |
+//! | `drawing` | one call of a drawing; calls drawn from the dice, at boundaries, at limits, without room, in bands, of rows filled in order, wild ones |
 //! | `placing` | one call of bounds or of a placement, and such calls drawn from the dice |
 //! | `stores` | one call of the pool, store by store; calls in every order, of drawings, at the cap, wild ones |
 //! | `boundaries` | every boundary and refusal of docs/RULES.md as a table written by hand |
 //! | `reading` | the rules' refusals, boxes, placements and pixels, read independently |
 //! | `driver` | what a call must leave behind, by the reading and zeno together |
+//! | `alone` | bands drawn by zeno alone, and the record at which one lacks room |
 //! | `pool` | the cells in the words of a workspace |
 //! | `lent` | what is lent to the port, between marks |
 //! | `fixture` | stored answers for another program to replay |
@@ -24,6 +25,7 @@
 // Decimals are written as docs/RULES.md has them, exactly.
 #![allow(clippy::excessive_precision)]
 
+pub mod alone;
 pub mod boundaries;
 pub mod drawing;
 pub mod driver;

@@ -3,6 +3,9 @@
 //! `transform_point`, `transform_vector`), its placements through `Placement::compute`, a box of
 //! points through `Bounds::from_points`; the rasterizer needs the care that stands here.
 
+use std::rc::Rc;
+use std::slice;
+
 use crate::zeno::path_data;
 use crate::zeno::raster::{Cell, FixedPoint, RasterStorage, Rasterizer};
 
@@ -43,6 +46,27 @@ pub struct CellAt {
     pub area: i32,
 }
 
+/// A pair as it is stored, and the command that stores it.
+#[derive(Clone, Copy, Debug, PartialEq)]
+pub struct Given {
+    pub pair: CellAt,
+    /// Counted from 0; what zeno stores behind the last command is by the number of commands.
+    pub by: usize,
+    /// How many cells zeno's storage holds with it.
+    pub held: usize,
+}
+
+/// A label with every stored cell.
+#[derive(Clone, Debug, PartialEq)]
+pub struct Inked {
+    /// As `Painted` has it.
+    pub mask: Vec<u8>,
+    /// Rows rising and columns rising in a row.
+    pub cells: Vec<CellAt>,
+    /// For each cell the command that stored into it first.
+    pub since: Vec<usize>,
+}
+
 /// One run of `rasterize_write`, empty ones included.
 #[derive(Clone, Copy, Debug, PartialEq)]
 pub struct Run {
@@ -70,19 +94,22 @@ pub fn painted(label: &Label) -> Option<Painted> {
     })
 }
 
-/// The mask and every stored cell, rows rising and columns rising in a row, or nothing where zeno
+/// The mask and every stored cell with the command that stored into it first, or nothing where zeno
 /// may not be asked.
+pub fn inked(label: &Label) -> Option<Inked> {
+    let (mask, storage) = noted(label)?;
+    let (cells, since) = storage.summed();
+    Some(Inked { mask, cells, since })
+}
+
+/// The mask and every stored cell alone.
 pub fn painted_cells(label: &Label) -> Option<(Vec<u8>, Vec<CellAt>)> {
-    let mut storage = Noted::default();
-    let mask = rasterize(label, &mut storage)?;
-    Some((mask, storage.summed()))
+    inked(label).map(|inked| (inked.mask, inked.cells))
 }
 
 /// The pairs that are stored for a label, in zeno's order, or nothing where zeno may not be asked.
-pub fn pairs(label: &Label) -> Option<Vec<CellAt>> {
-    let mut storage = Noted::default();
-    rasterize(label, &mut storage)?;
-    Some(storage.given)
+pub fn given(label: &Label) -> Option<Vec<Given>> {
+    noted(label).map(|(_, storage)| storage.given)
 }
 
 /// What is stored after these pairs, of rows below `rows`: every cell, rows rising and columns
@@ -90,7 +117,7 @@ pub fn pairs(label: &Label) -> Option<Vec<CellAt>> {
 pub fn stored(rows: usize, pairs: &[CellAt]) -> Vec<CellAt> {
     let mut storage = Noted::default();
     store(rows, pairs, &mut storage);
-    storage.summed()
+    storage.summed().0
 }
 
 /// Empties a storage for so many rows and gives it these pairs. It holds any column.
@@ -160,11 +187,31 @@ fn within_reach(label: &Label, command: &Command) -> bool {
 
 fn rasterize(label: &Label, storage: &mut impl RasterStorage) -> Option<Vec<u8>> {
     let askable = Askable::new(*label)?;
-    let rows_before_last = label.height.checked_sub(1);
-    let length = rows_before_last.map_or(0, |rows| label.pitch * rows + label.width);
-    let mut mask = vec![0; length];
+    let mut mask = blank(label);
     askable.paint(storage, &mut mask, || {});
     Some(mask)
+}
+
+/// A mask of zeros for a label.
+fn blank(label: &Label) -> Vec<u8> {
+    let rows_before_last = label.height.checked_sub(1);
+    let length = rows_before_last.map_or(0, |rows| label.pitch * rows + label.width);
+    vec![0; length]
+}
+
+/// The mask, and a storage that has noted which command gave what.
+fn noted(label: &Label) -> Option<(Vec<u8>, Noted)> {
+    let askable = Askable::new(*label)?;
+    let mut mask = blank(label);
+    let mut storage = Noted::default();
+    let done = Rc::clone(&storage.done);
+    askable.rasterize(&mut storage, &mut mask, |sink| {
+        for command in label.path {
+            path_data::apply(slice::from_ref(command), label.transform, sink);
+            done.set(done.get() + 1);
+        }
+    });
+    Some((mask, storage))
 }
 
 /// A label that zeno may be asked for, found so once, to be drawn any number of times.
@@ -176,17 +223,27 @@ impl<'a> Askable<'a> {
     }
 
     /// Draws into a mask of zeros. `when_drawn` is called between the path and the sweep.
-    pub fn paint(
+    pub fn paint<S: RasterStorage>(
         &self,
-        storage: &mut impl RasterStorage,
+        storage: &mut S,
         mask: &mut [u8],
         mut when_drawn: impl FnMut(),
     ) {
         let label = &self.0;
-        let mut apply = |sink: &mut Rasterizer<'_, _>| {
+        self.rasterize(storage, mask, |sink| {
             path_data::apply(label.path, label.transform, sink);
             when_drawn();
-        };
+        });
+    }
+
+    /// The same, the path applied by `apply`.
+    fn rasterize<S: RasterStorage>(
+        &self,
+        storage: &mut S,
+        mask: &mut [u8],
+        mut apply: impl FnMut(&mut Rasterizer<'_, S>),
+    ) {
+        let label = &self.0;
         Rasterizer::new(storage).rasterize(
             label.offset,
             label.width as u32,
@@ -208,7 +265,9 @@ impl<'a> Askable<'a> {
 #[derive(Default)]
 struct Noted {
     heap: HeapStorage,
-    given: Vec<CellAt>,
+    given: Vec<Given>,
+    /// How many commands have been applied; who applies them counts.
+    done: Rc<std::cell::Cell<usize>>,
 }
 
 impl RasterStorage for Noted {
@@ -226,31 +285,42 @@ impl RasterStorage for Noted {
     }
 
     fn set(&mut self, x: i32, y: i32, area: i32, cover: i32) {
-        self.given.push(CellAt {
-            row: y,
-            column: x,
-            cover,
-            area,
-        });
         self.heap.set(x, y, area, cover);
+        self.given.push(Given {
+            pair: CellAt {
+                row: y,
+                column: x,
+                cover,
+                area,
+            },
+            by: self.done.get(),
+            held: self.heap.cells().len(),
+        });
     }
 }
 
 impl Noted {
-    /// The distinct places in order, each with its wrapping sums.
-    fn summed(mut self) -> Vec<CellAt> {
-        self.given.sort_by_key(|cell| (cell.row, cell.column));
-        let mut cells: Vec<CellAt> = Vec::with_capacity(self.heap.cells().len());
-        for pair in &self.given {
+    /// The distinct places in order, each with its wrapping sums, and who stored into each first.
+    fn summed(mut self) -> (Vec<CellAt>, Vec<usize>) {
+        // Stable, so that a place's pairs stay in zeno's order.
+        self.given
+            .sort_by_key(|given| (given.pair.row, given.pair.column));
+        let count = self.heap.cells().len();
+        let mut cells: Vec<CellAt> = Vec::with_capacity(count);
+        let mut since = Vec::with_capacity(count);
+        for Given { pair, by, .. } in &self.given {
             match cells.last_mut() {
                 Some(cell) if (cell.row, cell.column) == (pair.row, pair.column) => {
                     cell.cover = cell.cover.wrapping_add(pair.cover);
                     cell.area = cell.area.wrapping_add(pair.area);
                 }
-                _ => cells.push(*pair),
+                _ => {
+                    cells.push(*pair);
+                    since.push(*by);
+                }
             }
         }
-        assert_eq!(cells.len(), self.heap.cells().len(), "zeno's own count");
-        cells
+        assert_eq!(cells.len(), count, "zeno's own count");
+        (cells, since)
     }
 }

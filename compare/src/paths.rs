@@ -14,7 +14,7 @@ pub use filled::{full_rows, Figure};
 pub use large::{large_curves, thin_bar};
 pub use lost::without_moves_to_the_start;
 pub use small::{Shape, Small, SMALL};
-pub use text::{address, ADDRESS};
+pub use text::{address, glyph, ADDRESS};
 
 use crate::numbers::Dice;
 use crate::oracle::{Command, Point};

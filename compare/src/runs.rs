@@ -3,15 +3,15 @@
 use std::time::Instant;
 
 use crate::kinds::{bands::Bands, boxes::Boxes, lists::Lists, maps, placements::Placements};
-use crate::kinds::{cells, drawings, filled, in_bands, lost_moves, run, stores, Kind};
+use crate::kinds::{cells, drawings, filled, in_bands, lost_moves, no_room, run, stores, Kind};
 use compare::boundaries;
 use compare::drawing::{
-    at_a_boundary, at_the_cap, at_the_limits, every_order, in_bands_at_the_cap,
-    in_bands_of_full_rows, long_rows_filled, orders_in_all, ordinary, rows_filled, with_just_room,
-    with_room_for_bands,
+    at_a_boundary, at_the_cap, at_the_limits, every_order, every_short_list, in_bands_at_the_cap,
+    in_bands_of_full_rows, long_rows_filled, no_room_at_once, no_room_for_a_band, no_room_in_bands,
+    orders_in_all, ordinary, rows_filled, short_lists_in_all, with_just_room, with_room_for_bands,
 };
 use compare::flags::Flags;
-use compare::oracle::Origin;
+use compare::oracle::{Fill, Origin};
 use compare::paths::Character;
 use compare::stores::{
     every_sequence, long_rows_stored, of_a_drawing, rows_stored, sequences_in_all,
@@ -21,6 +21,7 @@ use drawings::{Boundaries, Drawings, SmallDrawings};
 use filled::Filled;
 use in_bands::InBands;
 use lost_moves::LostMoves;
+use no_room::NoRoom;
 use stores::Stores;
 
 pub const USAGE: &str = "compare [--seed S] [--scale N] [--share N] [--only KIND]";
@@ -41,7 +42,7 @@ struct Run<'a> {
 type Group = fn(&mut Run) -> Result<(), String>;
 
 /// The groups by name, in the order of their running; the last take longest.
-const GROUPS: [(&str, Group); 10] = [
+const GROUPS: [(&str, Group); 11] = [
     ("maps", maps),
     ("boxes", boxes),
     ("placements", placements),
@@ -49,6 +50,7 @@ const GROUPS: [(&str, Group); 10] = [
     ("rows", rows),
     ("stores", stores),
     ("drawings", drawings),
+    ("room", room),
     ("refusals", refusals),
     ("bands", bands),
     ("cells", cells),
@@ -222,6 +224,31 @@ fn drawings(run: &mut Run) -> Result<(), String> {
     };
     run.scaled(&addresses, 500)?;
     run.scaled(&LostMoves, 40_000)
+}
+
+/// Which record is named where there is no room, under either rule.
+fn room(run: &mut Run) -> Result<(), String> {
+    let kinds = [
+        (
+            "no room: at once",
+            no_room_at_once as fn(u64, &mut _) -> _,
+            200_000,
+        ),
+        ("no room: for a band alone", no_room_for_a_band, 150_000),
+        ("no room: in bands by one call", no_room_in_bands, 200_000),
+    ];
+    for fill in [Fill::NonZero, Fill::EvenOdd] {
+        let all = NoRoom {
+            name: "no room, or just room: all lists of six records over three points",
+            fill,
+            make: every_short_list,
+        };
+        run.counted(&all, short_lists_in_all())?;
+        for (name, make, count) in kinds {
+            run.scaled(&NoRoom { name, fill, make }, count)?;
+        }
+    }
+    Ok(())
 }
 
 fn refusals(run: &mut Run) -> Result<(), String> {

@@ -1,6 +1,7 @@
 //! The masks that the tests of the bindings go by, bindings/worked/: what zeno draws, and the
 //! numbers that bindings/worked/README.md tells of it.
 
+use crate::alone;
 use crate::drawing::{Drawing, Way};
 use crate::driver::{outcome, outcome_in};
 use crate::oracle::{Fill, Point, Transform};
@@ -49,6 +50,33 @@ fn three_rows_and_one_are_the_only_steps() {
     assert_eq!(outcome_in(&word_less, Way::InBands(3)).number, 13);
 }
 
+/// The records that those tests have where there is no room: by a step of 2 for the second band, by
+/// the others for the first.
+#[test]
+fn the_records_without_room_are_zenos() {
+    let refused = |words: usize, way: Way| {
+        let [even_odd, nonzero] = [Fill::EvenOdd, Fill::NonZero].map(|fill| {
+            let call = slanted(fill, words);
+            let outcome = outcome_in(&call, way);
+            let full = alone::first_full(&call, way).expect("no room");
+            assert_eq!((outcome.number, outcome.index), (13, full.record));
+            full
+        });
+        assert_eq!(even_odd, nonzero);
+        (even_odd.band, even_odd.record)
+    };
+    assert_eq!(refused(WORDS, Way::InBands(2)), (1, 10));
+    for (steps, record) in [(4..=5, 8), (6..=7, 7), (8..=10, 5), (11..=30, 3)] {
+        for step in steps {
+            assert_eq!(refused(WORDS, Way::InBands(step)), (0, record), "{step}");
+        }
+    }
+    assert_eq!(refused(WORDS, Way::AtOnce), (0, 3));
+    assert_eq!(refused(11 + 4 * 93 - 1, Way::AtOnce), (0, 10));
+    assert_eq!(refused(WORDS - 1, Way::InBands(3)), (0, 8));
+    assert_eq!(refused(WORDS - 1, Way::InBands(7)), (0, 6));
+}
+
 /// All rows of the same label, as bindings/rust/tests/worked/ has them.
 #[test]
 fn the_stored_pictures_are_zenos() {
@@ -74,14 +102,15 @@ fn checksum(bytes: &[u8]) -> u64 {
     })
 }
 
-/// The numbers that bindings/rust/tests/face/pictures.rs has of the example at two sizes.
+/// The numbers that bindings/rust/tests/face/pictures.rs has of the example at two sizes: cells,
+/// checksum, and what it is at once.
 #[test]
 fn the_examples_checksums_are_zenos() {
     let sizes = [
-        (1.0, 8_263, 0x0AD1_0571_B216_AC2D),
-        (2.0, 16_494, 0x6962_F6BC_4857_D771),
+        (1.0, 8_263, 0x0AD1_0571_B216_AC2D, (0, 0)),
+        (2.0, 16_494, 0x6962_F6BC_4857_D771, (13, 1_239)),
     ];
-    for (scale, cells, sum) in sizes {
+    for (scale, cells, sum, at_once) in sizes {
         let (width, height) = (640 * scale as usize, 240 * scale as usize);
         let label = Drawing {
             list: include_bytes!("../../examples/label.mzp").to_vec(),
@@ -99,5 +128,7 @@ fn the_examples_checksums_are_zenos() {
         let drawn = outcome_in(&label, Way::InBands(height / 2));
         assert_eq!((drawn.number, drawn.cells), (0, cells));
         assert_eq!(checksum(&drawn.mask), sum);
+        let drawn = outcome(&label);
+        assert_eq!((drawn.number, drawn.index), at_once);
     }
 }

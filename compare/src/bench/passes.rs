@@ -20,8 +20,8 @@ pub enum Pass {
     InBands(usize),
     /// The list with a byte too many, which is refused after its last record.
     Judging,
-    /// The label, with a workspace that lacks a place: drawn, but for what comes behind the place that
-    /// does not fit, and refused before it is swept.
+    /// The label, with a workspace that lacks a place: drawn up to the record whose place does not fit,
+    /// and refused before it is swept.
     Unswept,
     /// An empty list and no width: only the workspace is wiped.
     Wiping,

@@ -1,9 +1,7 @@
-//! 1 to 6 and 13: sizes, loans, floats and the pool.
+//! 1 to 6: sizes, loans and floats.
 
 use super::{k1, k1_but, rectangle, Boundary, Rows};
 use crate::drawing::Drawing;
-use crate::oracle::{Command, Point};
-use crate::paths::full_rows;
 use crate::reading::SIDE;
 
 const FAR: usize = usize::MAX;
@@ -16,9 +14,6 @@ pub fn table() -> Vec<Boundary> {
     masks(&mut rows);
     workspaces(&mut rows);
     floats(&mut rows);
-    pools(&mut rows);
-    the_cap(&mut rows);
-    widest_rows(&mut rows);
     rows.0
 }
 
@@ -107,9 +102,9 @@ fn masks(rows: &mut Rows) {
 }
 
 fn workspaces(rows: &mut Rows) {
-    for (words, number) in [(0, 5), (2, 5), (3, 13), (10, 13), (11, 0), (12, 0)] {
+    for (words, answer) in [(0, (5, 0)), (2, (5, 0)), (3, (13, 2)), (11, (0, 0))] {
         let drawing = k1_but(|d| d.words.truncate(words));
-        rows.plain(format!("K1 with {words} words"), number, drawing);
+        rows.add(format!("K1 with {words} words"), answer, drawing);
     }
     let mut empty = Drawing::plain(&[], 4, 3);
     empty.words.truncate(3);
@@ -147,65 +142,4 @@ fn set_part(drawing: &mut Drawing, part: usize, number: f32) {
         6 => offset.x = number,
         _ => offset.y = number,
     }
-}
-
-fn pools(rows: &mut Rows) {
-    let lone = |x: f32, y: f32| [Command::MoveTo(Point::new(x, y))];
-    for (words, number) in [(1, 13), (2, 13), (3, 13), (4, 13), (5, 0), (6, 0)] {
-        let mut k8 = Drawing::plain(&lone(0.0, 0.0), 1, 1);
-        k8.words.truncate(words);
-        rows.plain(format!("K8 with {words} words"), number, k8);
-    }
-    for (x, y, number) in [
-        (1.0, 0.0, 0),
-        (0.0, 1.0, 0),
-        (0.0, -1.0, 0),
-        (-1.0, 0.0, 13),
-    ] {
-        let mut outside = Drawing::plain(&lone(x, y), 1, 1);
-        outside.words.truncate(1);
-        rows.plain(format!("no pool, MoveTo ({x}, {y})"), number, outside);
-    }
-    for (x, number) in [(-1.0, 13), (0.0, 0)] {
-        let mut narrow = Drawing::plain(&lone(x, 0.0), 0, 1);
-        narrow.words.truncate(1);
-        rows.plain(
-            format!("no pool, no width, MoveTo ({x}, 0)"),
-            number,
-            narrow,
-        );
-    }
-}
-
-/// The largest pool, 16,384: two bars of 4,096 rows take two places a row each, a last MoveTo one
-/// more.
-fn the_cap(rows: &mut Rows) {
-    let bar = |n: usize| rectangle(8.0 * n as f32, 0.0, 8.0 * n as f32 + 4.0, SIDE as f32);
-    let path: Vec<Command> = (0..2).flat_map(bar).collect();
-    let mut drawing = Drawing::plain(&path, 16, SIDE);
-    for (words, number) in [(69_631, 13), (69_632, 0), (69_636, 0), (100_000, 0)] {
-        drawing.words.resize(words, 5);
-        let what = format!("16,384 places and {words} words");
-        rows.plain(what, number, drawing.clone());
-    }
-    let mut one_more = path;
-    one_more.push(Command::MoveTo(Point::new(15.0, 7.0)));
-    drawing.list = crate::list::written(&one_more);
-    for words in [69_632, 69_636, 100_000] {
-        drawing.words.resize(words, 5);
-        let what = format!("16,385 places and {words} words");
-        rows.plain(what, 13, drawing.clone());
-    }
-}
-
-/// The widest label with every place of its rows stored, 4,097 in each: three rows fit the largest
-/// pool, four do not.
-fn widest_rows(rows: &mut Rows) {
-    for (count, number) in [(1, 0), (3, 0), (4, 13)] {
-        let drawing = Drawing::plain(&full_rows(SIDE, count), SIDE, count);
-        rows.plain(format!("{count} widest rows, full"), number, drawing);
-    }
-    let mut lacking = Drawing::plain(&full_rows(SIDE, 3), SIDE, 3);
-    lacking.words.truncate(3 + 4 * 3 * (SIDE + 1) - 1);
-    rows.plain("3 widest rows, full, a word lacking", 13, lacking);
 }

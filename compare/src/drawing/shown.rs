@@ -7,10 +7,7 @@ use crate::oracle::{Fill, Point, Transform};
 
 impl Drawing {
     pub fn shown(&self) -> String {
-        let rule = match self.fill {
-            Fill::NonZero => "nonzero",
-            Fill::EvenOdd => "even-odd",
-        };
+        let rule = rule_shown(self.fill);
         let way = if self.up { "up" } else { "down" };
         format!(
             "{}{}  {rule}, {way}, width {}, height {}, pitch {}, band [{}, {})\n  \
@@ -27,6 +24,13 @@ impl Drawing {
             self.words.len(),
             held(&self.words),
         )
+    }
+}
+
+pub fn rule_shown(fill: Fill) -> &'static str {
+    match fill {
+        Fill::NonZero => "nonzero",
+        Fill::EvenOdd => "even-odd",
     }
 }
 

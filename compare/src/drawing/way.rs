@@ -56,7 +56,7 @@ pub fn with_room_for_bands(dice: &mut Dice) -> (Drawing, usize) {
     let step = any_step(drawing.rows(), dice);
     if let Ok(drawn) = driver::drawn(&drawing) {
         let bands = Way::InBands(step).bands(drawing.rows());
-        let needs = bands.map(|band| band.len() + 4 * driver::places_in(&drawn.cells, band));
+        let needs = bands.map(|band| band.len() + 4 * driver::places_in(&drawn.cells, band).len());
         let most = needs.max().unwrap_or(0);
         let short = dice.pick(&[0, 0, 0, 1, 4]).min(most);
         let words = most - short + dice.pick(&[0, 0, 3]);

@@ -65,9 +65,9 @@ impl Kind for InBands {
 
 /// The number; where a band's room decides, what the whole would be, and which band has none.
 fn heading(label: &Drawing, step: usize, expected: &Outcome) -> &'static str {
-    let room = || reading::judge_room(expected.cells, label.words.len(), label.rows());
+    let room = || reading::pool(label.words.len(), label.rows());
     match expected.number {
-        0 if room().is_err() => "accepted, though 13 at once",
+        0 if expected.cells > room() => "accepted, though 13 at once",
         13 if first_band_has_room(label, step) => "refused 13 for a later band",
         number => heading_of(number),
     }

@@ -5,7 +5,8 @@ use crate::drawing::Drawing;
 use crate::list;
 use crate::oracle::{Command, Point, Transform};
 
-/// A refusal's number and the index of the record at fault, 0 where there is none.
+/// A refusal's number and the index of the record at fault, 0 where no record is; the end of the list
+/// counts as the record behind the last.
 #[derive(Clone, Copy, Debug, PartialEq, Eq)]
 pub struct Refusal {
     pub number: u8,
@@ -57,12 +58,17 @@ pub fn pool(words: usize, rows: usize) -> usize {
     ((words - rows) / 4).min(PLACES)
 }
 
-/// 13: the distinct places of a drawing outnumber the pool.
-pub fn judge_room(places: usize, words: usize, rows: usize) -> Result<(), Refusal> {
-    if places > pool(words, rows) {
-        return refused(13, 0);
+/// 13: the distinct places of a drawing outnumber the pool. The record at fault is the first that
+/// stores, with all before it, into more places than the pool has. `since` tells for each place, in
+/// whatever order, the record that stores into it first.
+pub fn judge_room(since: &[usize], words: usize, rows: usize) -> Result<(), Refusal> {
+    let room = pool(words, rows);
+    if since.len() <= room {
+        return Ok(());
     }
-    Ok(())
+    let mut since = since.to_vec();
+    since.sort_unstable();
+    refused(13, since[room])
 }
 
 /// The point rule: each part is finite and, times 256 and cut toward zero, at most 256 times `REACH`
