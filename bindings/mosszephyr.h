@@ -50,11 +50,11 @@
  *
  * Refusals
  * --------
- * Every call that takes a list answers with a number, 0 or a refusal's, and an index: for 8 to 12
- * and 18 that of the record at fault, counted from 0, and else 0. 1 to 7 are asked first, in this
- * order. Then each record is judged, from the first on, up to one that is refused: a cut header
- * (8), 9, 10, a cut body (8), 11, 18, 12. A list must be judged to its end before it is drawn, so
- * 13 comes last. 14 to 17 are not given. rows stands for end - first.
+ * Every call that takes a list answers with a number, 0 or a refusal's, and an index: for 8 to 13
+ * and 18 that of a record, counted from 0, and else 0. 1 to 7 are asked first, in this order. Then
+ * each record is judged, from the first on, up to one that is refused: a cut header (8), 9, 10, a
+ * cut body (8), 11, 18, 12. A list must be judged to its end before it is drawn, so 13 comes last.
+ * 14 to 17 are not given. rows stands for end - first.
  *
  *     no.  exactly when
  *       1  width or height is above MZ_MOST_SIDE
@@ -71,6 +71,13 @@
  *      12  the point rule refuses a point
  *      13  the distinct places (column, row) that are stored outnumber the pool's
  *      18  a LineTo, QuadTo or CurveTo stands directly after a Close
+ *
+ * 8 to 12 and 18 name the record at fault. 13 names the one that is being drawn when a place first
+ * finds no room: so many records, from the front, still fit. A place is stored when the pen leaves
+ * it, so the record that leaves it counts, not the one that inked it; a MoveTo closes what is still
+ * open, and leaves a place too. Where it is the end that closes or stores, the index is the number
+ * of records. (A drawing of no rows, first = end, is never 13 and tells that number. A list that is
+ * cut before the record which 13 names may still be 13, by its own end.)
  *
  *
  * What is asked of the caller
@@ -117,9 +124,9 @@ extern "C" {
 
 /* The version of this face. */
 #define MZ_VERSION_MAJOR 0
-#define MZ_VERSION_MINOR 4
+#define MZ_VERSION_MINOR 5
 #define MZ_VERSION_PATCH 0
-#define MZ_VERSION "0.4.0"
+#define MZ_VERSION "0.5.0"
 
 /* The largest width and height, in pixels. */
 #define MZ_MOST_SIDE 4096
@@ -201,11 +208,11 @@ static inline const char *mz_words(uint32_t number) {
 }
 
 /*
- * Whether the index that comes with a number is that of a record at fault. (One 12 has none: where
- * an empty list's placement is refused for its offset.)
+ * Whether the index that comes with a number is that of a record. (One 12 has none: where an empty
+ * list's placement is refused for its offset. 13 may have the number of records: the list's end.)
  */
 static inline bool mz_names_a_record(uint32_t number) {
-    return (number >= MZ_CUT && number <= MZ_POINT) || number == MZ_AFTER_CLOSE;
+    return (number >= MZ_CUT && number <= MZ_ROOM) || number == MZ_AFTER_CLOSE;
 }
 
 /*
@@ -258,7 +265,7 @@ typedef struct MzLabel {
 /* What a drawing answers. */
 typedef struct MzDrawn {
     uint32_t number;  /* 0, or the refusal's number */
-    uint32_t index;   /* the index of the record at fault, else 0 */
+    uint32_t index;   /* the record's index, where the number names one, else 0 */
     uint32_t records; /* how many records the list has; 0 with a refusal */
     uint32_t cells;   /* how many distinct places the drawing stored; 0 with a refusal */
 } MzDrawn;
@@ -297,8 +304,8 @@ typedef struct MzPlacement {
  *                   MZ_MOST_CELLS. MZ_WORKSPACE_WORDS counts them. A drawing never stores more than
  *                   (width + 1) * rows places; the smaller the workspace, the sooner it is wiped
  *
- * Refuses with 1 to 13 and 18. What was in mask and words before changes no answer and no painted
- * byte.
+ * Refuses with 1 to 13 and 18. 13 and its index are by these rows alone: what the path stores in
+ * others has no say. What was in mask and words before changes no answer and no painted byte.
  *
  * Afterwards      mask                                              words
  *   0             in each band row width bytes are written, 0       all are 0
@@ -324,9 +331,12 @@ MzDrawn mz_draw(const uint8_t *list, size_t list_len, MzLabel label, uint8_t *ma
  *                   what is needed
  *
  * Refuses with 1 to 12 and 18 as mz_draw does, and with 13 exactly when one of the bands stores
- * more distinct places than its pool holds; then the mask is unchanged, whichever band it is. What
- * each number leaves in mask and words is as for mz_draw. Accepted, mask, records and cells are
- * those of the rows drawn at once; so whatever mz_draw accepts gives the same here, with any step.
+ * more distinct places than its pool holds; then the mask is unchanged, whichever band it is.
+ * The index is the one that mz_draw, lent these words, gives for that band by itself; of several
+ * such bands the first counts, in rising rows (up too), even if another is full at an earlier
+ * record. What each number leaves in mask and words is as for mz_draw. Accepted, mask, records and
+ * cells are those of the rows drawn at once; so whatever mz_draw accepts gives the same here, with
+ * any step.
  */
 MzDrawn mz_draw_in_bands(const uint8_t *list, size_t list_len, MzLabel label, size_t step,
                          uint8_t *mask, size_t mask_len, uint32_t *words, size_t words_len);

@@ -1,8 +1,9 @@
 /*
  * The C face, called as a C or a C++ program calls it: a worked label that zeno drew, at once and
- * in bands; worked transforms; K1, K8, K11, K12 and every refusal of the rules (docs/RULES.md), 18
- * with every short list; what the header says besides its functions. Takes the folder ../worked as
- * its argument. Prints what differs; exits non-zero if anything does. `run` builds it both ways.
+ * in bands; worked transforms; K1, K8, K11, K12 and every refusal of the rules (docs/RULES.md), 13
+ * with every room that is too small, 18 with every short list; what the header says besides its
+ * functions. Takes the folder ../worked as its argument. Prints what differs; exits non-zero if
+ * anything does. `run` builds it both ways.
  */
 
 #include "lists.h"
@@ -98,8 +99,9 @@ static bool masked(const Call *call, const uint8_t *bytes, size_t count) {
 /* What a refused call answered, and what it left of the memory as it was before. */
 static void check_refusal(const Call *before, const Call *after, MzDrawn drawn, uint32_t number,
                           uint32_t index) {
-    char what[32];
-    snprintf(what, sizeof what, "refusal %u", (unsigned)number);
+    char what[96];
+    snprintf(what, sizeof what, "refusal %u with index %u: answered with %u and %u",
+             (unsigned)number, (unsigned)index, (unsigned)drawn.number, (unsigned)drawn.index);
     check(drawn.number == number && drawn.index == index, what);
     check(drawn.records == 0 && drawn.cells == 0, what);
     check(memcmp(after->mask, before->mask, sizeof after->mask) == 0, what);
@@ -173,25 +175,73 @@ static void check_slanted(const Call *call, MzDrawn drawn, const uint8_t *mask, 
 
 /* A workspace that is just enough at once, and one that is so in bands of 3 rows (or of 1). */
 static void slanted_with(Call call, const uint8_t *mask, const char *what) {
-    static const size_t too_high[] = {2, 4, 5, 11, SIZE_MAX};
     call.words_len = MZ_WORKSPACE_WORDS(11, 93);
     Call at_once = call;
     MzDrawn drawn = draw(&at_once);
     check_slanted(&at_once, drawn, mask, what);
-    call.words_len -= 1;
-    expect_refusal_at_once(call, MZ_ROOM, 0);
     call.words_len = MZ_BANDS_WORDS(11, 3, 30);
     for (size_t step = 1; step <= 3; step += 2) {
         Call in_bands = call;
         drawn = draw_in_bands(&in_bands, step);
         check_slanted(&in_bands, drawn, mask, what);
     }
-    expect_refusal_at_once(call, MZ_ROOM, 0);
-    for (size_t at = 0; at < LENGTH(too_high); at += 1) {
-        expect_refusal_in_bands(call, too_high[at], MZ_ROOM, 0);
+}
+
+/*
+ * Each workspace that is too small at once. Into how many places each record is the first to store
+ * is zeno's: a pool of 15 has room for those of record 1, and one of 93 for all.
+ */
+static void slanted_without_room(Call call) {
+    static const size_t places[] = {0, 15, 5, 11, 0, 16, 9, 7, 18, 1, 11, 0};
+    call.words_len = 11;
+    for (uint32_t record = 0; record < LENGTH(places); record += 1) {
+        for (size_t words = 0; words < 4 * places[record]; words += 1) {
+            expect_refusal(call, MZ_ROOM, record);
+            call.words_len += 1;
+        }
+    }
+    check(call.words_len == MZ_WORKSPACE_WORDS(11, 93), "slanted: every pool that is too small");
+}
+
+/* Where zeno stores a place too many: by a step of 2 in the second band, by others in the first. */
+static void slanted_without_room_in_bands(Call call) {
+    static const struct {
+        size_t step;
+        uint32_t index;
+    } full[] = {{2, 10}, {4, 8}, {5, 8}, {6, 7}, {7, 7}, {8, 5}, {10, 5}, {11, 3}, {SIZE_MAX, 3}};
+    call.words_len = MZ_BANDS_WORDS(11, 3, 30);
+    for (size_t at = 0; at < LENGTH(full); at += 1) {
+        expect_refusal_in_bands(call, full[at].step, MZ_ROOM, full[at].index);
     }
     call.words_len -= 1;
-    expect_refusal_in_bands(call, 3, MZ_ROOM, 0);
+    expect_refusal_in_bands(call, 3, MZ_ROOM, 8);
+    expect_refusal_in_bands(call, 7, MZ_ROOM, 6);
+}
+
+/* In bands, what the first of them says that is refused by itself with the same words. */
+static void expect_as_the_first_full_band(Call call, size_t step) {
+    const MzLabel label = call.label;
+    MzDrawn alone = {0, 0, 0, 0};
+    for (size_t at = label.first; at < label.end && alone.number == MZ_ACCEPTED; at += step) {
+        Call band = call;
+        band.label.first = at;
+        band.label.end = label.end - at < step ? label.end : at + step;
+        alone = draw(&band);
+    }
+    if (alone.number == MZ_ACCEPTED) {
+        MzDrawn drawn = draw_in_bands(&call, step);
+        check(answers(drawn, 12, 93), "room for each band");
+    } else {
+        expect_refusal_in_bands(call, step, MZ_ROOM, alone.index);
+    }
+}
+
+static void slanted_in_bands_with_any_room(Call call) {
+    for (call.words_len = 11; call.words_len < MZ_WORKSPACE_WORDS(11, 93); call.words_len += 1) {
+        for (size_t step = 1; step <= 11; step += 1) {
+            expect_as_the_first_full_band(call, step);
+        }
+    }
 }
 
 static void slanted(const char *folder) {
@@ -202,6 +252,12 @@ static void slanted(const char *folder) {
     slanted_with(call_for(&list, slanted_label(true)), mask, "slanted, even-odd");
     read_worked(folder, "slanted_nonzero.mask", mask, sizeof mask);
     slanted_with(call_for(&list, slanted_label(false)), mask, "slanted, nonzero");
+    for (int even_odd = 0; even_odd <= 1; even_odd += 1) {
+        Call call = call_for(&list, slanted_label(even_odd == 1));
+        slanted_without_room(call);
+        slanted_without_room_in_bands(call);
+        slanted_in_bands_with_any_room(call);
+    }
 }
 
 /* ---- transforms, with numbers worked by hand: all are exact */
@@ -314,7 +370,7 @@ static void refusals_have_words(void) {
         unknown,
     };
     for (uint32_t number = 0; number < LENGTH(words); number += 1) {
-        bool names = (number > 7 && number < 13) || number == 18;
+        bool names = (number > 7 && number < 14) || number == 18;
         check(strcmp(mz_words(number), words[number]) == 0, words[number]);
         check(mz_names_a_record(number) == names, "mz_names_a_record");
     }
@@ -389,15 +445,16 @@ static void k1_in_bands(void) {
 /*
  * Three full rows, a place in each, with a pool of one place: too little at once and in bands of
  * two, enough row by row. With a second place in the last row it is too little there as well, and
- * the rows before leave no trace.
+ * the rows before leave no trace. The Close, record 4, leaves all places but the top row's, which
+ * the end stores.
  */
 static void bands_need_less_room(void) {
     static const uint8_t full[12] = {255, 255, 255, 255, 255, 255, 255, 255, 255, 255, 255, 255};
     List list = rectangle_of(0, 0, 4, 3);
     Call call = call_of(&list, 4, 3);
     call.words_len = MZ_WORKSPACE_WORDS(3, 1);
-    expect_refusal(call, MZ_ROOM, 0);
-    expect_refusal_in_bands(call, 2, MZ_ROOM, 0);
+    expect_refusal(call, MZ_ROOM, 4);
+    expect_refusal_in_bands(call, 2, MZ_ROOM, 5);
     Call row_by_row = call;
     MzDrawn drawn = draw_in_bands(&row_by_row, 1);
     check(answers(drawn, 5, 3), "less room: answer");
@@ -405,7 +462,7 @@ static void bands_need_less_room(void) {
     check(wiped(&row_by_row), "less room: words");
     move_to(&list, 2, 2);
     call.list_len = list.len;
-    expect_refusal_in_bands(call, 1, MZ_ROOM, 0);
+    expect_refusal_in_bands(call, 1, MZ_ROOM, 6);
 }
 
 static void k8_lone_move(void) {
@@ -415,9 +472,10 @@ static void k8_lone_move(void) {
     MzDrawn drawn = draw(&call);
     check(answers(drawn, 1, 1), "K8: answer");
     check(call.mask[0] == 0 && wiped(&call), "K8: mask and words");
-    Call one_word = call_of(&list, 1, 1);
-    one_word.words_len = 1;
-    expect_refusal(one_word, MZ_ROOM, 0);
+    Call no_room = call_of(&list, 1, 1);
+    for (no_room.words_len = 1; no_room.words_len < 5; no_room.words_len += 1) {
+        expect_refusal(no_room, MZ_ROOM, 1);
+    }
 }
 
 static void k11_placement(void) {
@@ -624,10 +682,13 @@ static void the_most_cells_are_drawn(void) {
     check(answers(drawn, 133, MZ_MOST_CELLS), "the most cells");
     move_to(&list, 0, 4);
     drawn = mz_draw(list.bytes, list.len, label, mask, sizeof mask, words, LENGTH(words));
-    check(drawn.number == MZ_ROOM, "one cell more than the most");
+    check(drawn.number == MZ_ROOM && drawn.index == 134, "one cell more than the most");
 }
 
-/* Rows with as many places as there can be: three of them fit into a pool, and four do not. */
+/*
+ * Rows with as many places as there can be: three of them fit into a pool, and four do not. What is
+ * too much are four places of the last record, a line through the fourth row's last columns.
+ */
 static void the_fullest_rows_fit_by_three(void) {
     static uint8_t mask[MZ_MOST_SIDE * 4];
     static uint32_t words[MZ_BANDS_WORDS(4, 4, MZ_MOST_CELLS)];
@@ -635,7 +696,7 @@ static void the_fullest_rows_fit_by_three(void) {
     List list = every_place_of_four_rows(-1);
     MzDrawn drawn =
         mz_draw_in_bands(list.bytes, list.len, label, 4, mask, sizeof mask, words, LENGTH(words));
-    check(drawn.number == MZ_ROOM, "the fullest rows by four");
+    check(drawn.number == MZ_ROOM && drawn.index == 131, "the fullest rows by four");
     drawn = mz_draw_in_bands(list.bytes, list.len, label, 3, mask, sizeof mask, words,
                              MZ_BANDS_WORDS(4, 3, 3 * (MZ_MOST_SIDE + 1)));
     check(answers(drawn, 132, 4 * (MZ_MOST_SIDE + 1)), "the fullest rows by three");
@@ -659,9 +720,12 @@ static void expect_no_box(const uint8_t *bytes, size_t len, uint32_t number, uin
     check(memcmp(&placed, &no_place, sizeof placed) == 0, "placement from the bottom: refused");
 }
 
-/* By every call that takes a list. */
+/* By every call that takes a list, with room and, since 13 comes last, without. */
 static void expect_record_refused(const List *list, uint32_t number, uint32_t index) {
-    expect_refusal(call_of(list, 4, 3), number, index);
+    Call call = call_of(list, 4, 3);
+    expect_refusal(call, number, index);
+    call.words_len = 3;
+    expect_refusal(call, number, index);
     expect_no_box(list->bytes, list->len, number, index);
 }
 
@@ -737,6 +801,142 @@ static void points_are_judged_with_the_offset(void) {
     check(placed.number == MZ_POINT, "placement: the offset is added");
     MzBounds bounds = mz_bounds(list.bytes, list.len, mz_identity());
     check(bounds.number == MZ_ACCEPTED, "bounds: no offset is added");
+}
+
+/* ---- 13: the record that stores a place too many */
+
+/*
+ * With every room, down and upward. `full` has a digit for each pool that is too small, from no
+ * place on: the record at which it is full. The next pool is enough.
+ */
+static void expect_full_at(const List *list, MzLabel label, const char *full) {
+    int failures_before = failures;
+    size_t rows = label.end - label.first;
+    size_t cells = strlen(full);
+    for (size_t room = 0; room < 4 * cells; room += 1) {
+        label.up = !label.up;
+        Call call = call_for(list, label);
+        call.words_len = rows + room;
+        expect_refusal(call, MZ_ROOM, (uint32_t)(full[room / 4] - '0'));
+    }
+    Call call = call_for(list, label);
+    call.words_len = MZ_WORKSPACE_WORDS(rows, cells);
+    MzDrawn drawn = draw(&call);
+    check(drawn.number == MZ_ACCEPTED && drawn.cells == cells, "just enough room");
+    if (failures != failures_before) {
+        printf("  full at %s\n", full);
+    }
+}
+
+/*
+ * The first place is inked by record 1, and left by record 2, which inks nothing. The second is
+ * inked and left by the end, and then by a Close.
+ */
+static void the_record_that_leaves_is_named(void) {
+    List list = one_move(0.5f, 0);
+    line_to(&list, 0.5f, 0.5f);
+    line_to(&list, 1.5f, 0.5f);
+    expect_full_at(&list, mz_label(2, 1), "23");
+    close_path(&list);
+    expect_full_at(&list, mz_label(2, 1), "23");
+}
+
+/* It has the number of records, which a drawing of no rows tells. */
+static void the_end_is_named(void) {
+    List list = one_move(0, 0);
+    expect_full_at(&list, mz_label(1, 1), "1");
+    list = rectangle();
+    expect_full_at(&list, mz_label(4, 3), "25");
+    MzDrawn drawn = mz_draw(list.bytes, list.len, mz_label(4, 0), NULL, 0, NULL, 0);
+    check(answers(drawn, 5, 0), "no rows tell how many records there are");
+    close_path(&list);
+    expect_full_at(&list, mz_label(4, 3), "26");
+}
+
+/*
+ * K1 and four full rows without their Close, closed by the end and then by a MoveTo; squares whose
+ * place a MoveTo leaves.
+ */
+static void a_move_to_closes_and_leaves(void) {
+    List list = rectangle();
+    list.len -= 4;
+    expect_full_at(&list, mz_label(4, 3), "24");
+    move_to(&list, 0, 0);
+    expect_full_at(&list, mz_label(4, 3), "245");
+    list = rectangle_of(0, 0, 4, 4);
+    list.len -= 4;
+    expect_full_at(&list, mz_label(4, 4), "4444");
+    move_to(&list, 0, 0);
+    expect_full_at(&list, mz_label(4, 4), "4444");
+    list = rectangle_of(0, 0, 1, 1);
+    expect_full_at(&list, mz_label(1, 1), "5");
+    move_to(&list, 0, 0);
+    expect_full_at(&list, mz_label(1, 1), "5");
+    put_rectangle(&list, 0, 0, 1, 1);
+    expect_full_at(&list, mz_label(1, 1), "5");
+}
+
+/*
+ * Four full rows. The Close, record 4, draws their left side upward and leaves all places but the
+ * top row's, which the end stores: a band has a record of its own.
+ */
+static void bands_are_full_by_themselves(void) {
+    static const struct {
+        size_t first;
+        size_t end;
+        const char *full;
+    } bands[] = {{0, 4, "4445"}, {0, 2, "45"}, {0, 1, "5"}, {1, 3, "44"}, {3, 4, "4"}, {2, 2, ""}};
+    List list = rectangle_of(0, 0, 4, 4);
+    for (size_t each = 0; each < LENGTH(bands); each += 1) {
+        MzLabel label = mz_label(4, 4);
+        label.first = bands[each].first;
+        label.end = bands[each].end;
+        expect_full_at(&list, label, bands[each].full);
+    }
+}
+
+/* Where none of these rows has room the first counts, though the others are full earlier. */
+static void the_first_full_band_counts(void) {
+    List list = rectangle_of(0, 0, 4, 4);
+    MzLabel label = mz_label(4, 4);
+    for (int up = 0; up <= 1; up += 1) {
+        label.up = up == 1;
+        Call call = call_for(&list, label);
+        call.words_len = 4;
+        expect_refusal(call, MZ_ROOM, 4);
+        expect_refusal_in_bands(call, 1, MZ_ROOM, 5);
+        call.label.first = 1;
+        expect_refusal_in_bands(call, 1, MZ_ROOM, 4);
+    }
+}
+
+/* The longest list: MoveTo (0, 0), and as many Closes as there is room for. */
+static void fill_with_closes(uint8_t *bytes) {
+    List list = list_of("MZ");
+    memcpy(bytes, list.bytes, list.len);
+    for (size_t at = list.len; at < MZ_MOST_LIST; at += 4) {
+        memcpy(bytes + at, list.bytes + 12, 4);
+    }
+}
+
+static void the_most_records_are_counted(void) {
+    static uint8_t bytes[MZ_MOST_LIST];
+    fill_with_closes(bytes);
+    List none = empty_list();
+    Call call = call_of(&none, 1, 1);
+    call.list = bytes;
+    call.list_len = MZ_MOST_LIST;
+    call.words_len = 1;
+    expect_refusal(call, MZ_ROOM, 16382);
+}
+
+static void the_record_without_room_is_named(void) {
+    the_record_that_leaves_is_named();
+    the_end_is_named();
+    a_move_to_closes_and_leaves();
+    bands_are_full_by_themselves();
+    the_first_full_band_counts();
+    the_most_records_are_counted();
 }
 
 /* ---- 18: nothing is drawn directly behind a Close */
@@ -870,10 +1070,7 @@ static void bands_are_refused_with_18(void) {
 static void the_longest_list_ends_behind_a_close(void) {
     static uint8_t bytes[MZ_MOST_LIST + 1];
     List list = list_of("MZL");
-    memcpy(bytes, list.bytes, 12);
-    for (size_t at = 12; at < MZ_MOST_LIST - 12; at += 4) {
-        memcpy(bytes + at, list.bytes + 12, 4);
-    }
+    fill_with_closes(bytes);
     memcpy(bytes + MZ_MOST_LIST - 12, list.bytes + 16, 12);
     Call call = call_of(&list, 4, 3);
     call.list = bytes;
@@ -954,6 +1151,7 @@ int main(int argc, char **argv) {
     version_is_one();
     rules_examples();
     refusals();
+    the_record_without_room_is_named();
     nothing_is_drawn_after_close();
     printf("C face: %d checks, %d differ\n", checks, failures);
     return failures == 0 ? 0 : 1;

@@ -141,7 +141,8 @@ pub const fn bands_words(rows: usize, step: usize, cells: usize) -> Option<usize
 ///
 /// # Errors
 ///
-/// 1 to 13 and 18.
+/// 1 to 13 and 18. 13 and its record are by these rows alone: what the path stores in others has no
+/// say.
 ///
 /// ```
 /// use mosszephyr::{draw_band, mask_bytes, workspace_words, Label, Path};
@@ -176,7 +177,9 @@ pub fn draw_band(
 /// # Errors
 ///
 /// 1 to 12 and 18 as [`draw_band`] has them, and 13 where one of the bands stores more places than it
-/// has room for; the mask is then as it was.
+/// has room for; the mask is then as it was. It is the 13 that [`draw_band`], lent these words, gives
+/// for that band by itself; of several such bands the first counts, in rising rows, even if another
+/// is full at an earlier record.
 ///
 /// ```
 /// use mosszephyr::{bands_words, draw_band, draw_in_bands, Drawn, Label, Path, Refusal};
@@ -185,8 +188,8 @@ pub fn draw_band(
 /// path.move_to((1.0, 0.0)).line_to((3.0, 0.0)).line_to((3.0, 3.0)).line_to((1.0, 3.0));
 /// let label = Label::new(4, 3);
 /// let (mut mask, mut words) = ([7; 12], vec![0; bands_words(3, 1, 2).unwrap()]);
-/// let refusal = draw_band(&path, &label, 0..3, &mut mask, &mut words);
-/// assert_eq!((refusal, mask), (Err(Refusal::Room), [7; 12]));
+/// let refusal = draw_band(&path, &label, 0..3, &mut mask, &mut words).unwrap_err();
+/// assert_eq!((refusal.number(), refusal.record(), mask), (13, Some(2), [7; 12]));
 /// let drawn = draw_in_bands(&path, &label, 0..3, 1, &mut mask, &mut words)?;
 /// assert_eq!(drawn, Drawn { records: 4, cells: 6 });
 /// assert_eq!(mask, [0, 255, 255, 0, 0, 255, 255, 0, 0, 255, 255, 0]);

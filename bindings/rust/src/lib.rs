@@ -34,7 +34,7 @@
 //! }
 //! ```
 //!
-//! What cannot be drawn is turned away with a [`Refusal`]: a number, the record at fault and its
+//! What cannot be drawn is turned away with a [`Refusal`]: a number, the record that it names and its
 //! byte, and words for people. Every number and every byte may be handed in; none makes a call panic
 //! or misuse memory, and every call returns. The library has no state, so any number of threads may
 //! call it.

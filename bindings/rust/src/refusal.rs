@@ -3,7 +3,7 @@
 use std::error::Error;
 use std::fmt;
 
-/// A refusal: its number, the record at fault, and words for people.
+/// A refusal: its number, the record that it names, and words for people.
 ///
 /// | No. | Exactly when |
 /// |---|---|
@@ -28,6 +28,29 @@ use std::fmt;
 /// 1 to 7 are judged in this order; then each record, from the first on, up to one that is refused: a
 /// cut header (8), 9, 10, a cut body (8), 11, 18, 12. 13 comes last. 14 to 17 are not given. Which of
 /// them a function gives is said by its *Errors*.
+///
+/// 8 to 12 and 18 name the record at fault. 13 names the one that is being drawn when a place first
+/// finds no room: so many records, from the front, still fit. A place is stored when the pen leaves
+/// it, so the record that leaves it counts, not the one that inked it; a MoveTo closes what is still
+/// open, and leaves a place too. Where it is the end that closes or stores, 13 has the number of
+/// records and the list's length:
+///
+/// ```
+/// use mosszephyr::{draw_band, Label, Path, Refusal};
+///
+/// let mut path = Path::new();
+/// path.move_to((1.0, 1.0)).line_to((3.0, 1.0)).line_to((3.0, 2.0)).line_to((1.0, 2.0)).close();
+/// let drawn = |places: usize| {
+///     let (mut mask, mut words) = ([0; 12], vec![0; 3 + 4 * places]);
+///     draw_band(&path, &Label::new(4, 3), 0..3, &mut mask, &mut words)
+/// };
+/// let refusal = drawn(0).unwrap_err();
+/// assert_eq!((refusal.record(), refusal.byte()), (Some(2), Some(24)));
+/// let refusal = drawn(1).unwrap_err();
+/// assert!(matches!(refusal, Refusal::Room { at_end: true, .. }));
+/// assert_eq!((refusal.record(), refusal.byte()), (Some(5), Some(path.len())));
+/// assert!(drawn(2).is_ok());
+/// ```
 ///
 /// As text, by `{}` and by `{:?}`, a refusal is what a person can use, so a `main` that returns it
 /// tells enough:
@@ -71,14 +94,19 @@ pub enum Refusal {
     /// empty path's placement.
     Point(Option<At>),
     /// 13: more places than the pool holds.
-    Room,
+    Room {
+        /// The record that is being drawn when a place first finds no room.
+        at: At,
+        /// Whether that is the list's end, behind the last record.
+        at_end: bool,
+    },
     /// 18: a LineTo, QuadTo or CurveTo directly after a Close, with no MoveTo between.
     AfterClose(At),
     /// A number that this version of the crate has no words for, from a library newer than it.
     Unknown(u32),
 }
 
-/// Where in a list a record stands.
+/// Where in a list a record stands, or, for 13, the list's end: where one more record would.
 #[derive(Clone, Copy, Debug, PartialEq, Eq, Hash)]
 pub struct At {
     /// The record's index, from 0.
@@ -104,7 +132,10 @@ impl Refusal {
             10 => Refusal::Length(at),
             11 => Refusal::Start(at),
             12 => Refusal::Point((!list.is_empty()).then_some(at)),
-            13 => Refusal::Room,
+            13 => Refusal::Room {
+                at,
+                at_end: at.byte == list.len(),
+            },
             18 => Refusal::AfterClose(at),
             unknown => Refusal::Unknown(unknown),
         }
@@ -126,19 +157,21 @@ impl Refusal {
             Refusal::Length(_) => 10,
             Refusal::Start(_) => 11,
             Refusal::Point(_) => 12,
-            Refusal::Room => 13,
+            Refusal::Room { .. } => 13,
             Refusal::AfterClose(_) => 18,
             Refusal::Unknown(number) => number,
         }
     }
 
-    /// The index of the record at fault, from 0, where one is.
+    /// The index of the record that is named, from 0, where one is; the number of records for the
+    /// list's end.
     #[must_use]
     pub fn record(&self) -> Option<usize> {
         self.at().map(|at| at.record)
     }
 
-    /// Where the record at fault starts: how many bytes of the list stand before it.
+    /// Where the record that is named starts: how many bytes of the list stand before it, all of them
+    /// before the list's end.
     #[must_use]
     pub fn byte(&self) -> Option<usize> {
         self.at().map(|at| at.byte)
@@ -162,7 +195,7 @@ impl Refusal {
             Refusal::Point(_) => {
                 "a point is NaN, infinite, or 1/256 of a pixel or more beyond 4,096 from zero"
             }
-            Refusal::Room => "the drawing needs more places than the workspace has room for",
+            Refusal::Room { .. } => "the drawing needs more places than the workspace has room for",
             Refusal::AfterClose(_) => {
                 "the record draws directly after a Close, with no MoveTo between"
             }
@@ -176,6 +209,7 @@ impl Refusal {
             | Refusal::Kind(at)
             | Refusal::Length(at)
             | Refusal::Start(at)
+            | Refusal::Room { at, .. }
             | Refusal::AfterClose(at) => Some(at),
             Refusal::Point(at) => at,
             _ => None,
@@ -202,7 +236,11 @@ impl fmt::Display for Refusal {
     fn fmt(&self, f: &mut fmt::Formatter<'_>) -> fmt::Result {
         write!(f, "refused with {}", self.number())?;
         if let Some(At { record, byte }) = self.at() {
-            write!(f, " at record {record} (byte {byte})")?;
+            let end = match self {
+                Refusal::Room { at_end: true, .. } => "the list's end, ",
+                _ => "",
+            };
+            write!(f, " at {end}record {record} (byte {byte})")?;
         }
         write!(f, ": {}", self.words())
     }
@@ -244,7 +282,7 @@ mod tests {
     #[test]
     fn bytes_are_those_before_the_record() {
         for (record, byte) in [(0, 0), (1, 12), (2, 16), (3, 36)] {
-            for number in (8..=12).chain([18]) {
+            for number in (8..=13).chain([18]) {
                 let refusal = Refusal::new(number, record, &list());
                 assert_eq!(
                     (refusal.record(), refusal.byte()),
@@ -259,14 +297,29 @@ mod tests {
     }
 
     #[test]
-    fn only_8_to_12_and_18_have_a_record() {
+    fn only_8_to_13_and_18_have_a_record() {
         for number in 0..=20 {
             let refusal = Refusal::new(number, 1, &list());
-            let named = (8..=12).contains(&number) || number == 18;
+            let named = (8..=13).contains(&number) || number == 18;
             let expected = named.then_some((1, 12));
             assert_eq!(refusal.record().zip(refusal.byte()), expected, "{number}");
         }
         assert_eq!(Refusal::new(12, 0, &[]), Refusal::Point(None));
+    }
+
+    /// Behind the last of three records there is the end.
+    #[test]
+    fn the_end_is_told_from_a_record() {
+        for (record, byte) in [(1, 12), (2, 16), (3, 36)] {
+            let (at, at_end) = (At { record, byte }, record == 3);
+            let refusal = Refusal::new(13, record, &list());
+            assert_eq!(refusal, Refusal::Room { at, at_end });
+        }
+        let words = "the drawing needs more places than the workspace has room for";
+        let said = format!("refused with 13 at record 2 (byte 16): {words}");
+        assert_eq!(Refusal::new(13, 2, &list()).to_string(), said);
+        let said = format!("refused with 13 at the list's end, record 3 (byte 36): {words}");
+        assert_eq!(Refusal::new(13, 3, &list()).to_string(), said);
     }
 
     /// A record that no list can have, and bytes that are no list.

@@ -244,7 +244,7 @@ pub(crate) fn draw_fitting(
     words: &mut [u32],
 ) -> Result<Drawn, Refusal> {
     let at_once = face::draw(list, label, band.clone(), mask, words);
-    if at_once != Err(Refusal::Room) {
+    if !lacks_room(&at_once) {
         return at_once;
     }
     let least = MOST_CELLS / (label.width + 1);
@@ -252,10 +252,14 @@ pub(crate) fn draw_fitting(
     loop {
         step = step.div_ceil(2).max(least);
         let drawn = face::draw_in_bands(list, label, band.clone(), step, mask, words);
-        if drawn != Err(Refusal::Room) || step == least {
+        if !lacks_room(&drawn) || step == least {
             return drawn;
         }
     }
+}
+
+fn lacks_room(drawn: &Result<Drawn, Refusal>) -> bool {
+    matches!(drawn, Err(Refusal::Room { .. }))
 }
 
 /// Refusals 1, 3, 4, 6 to 12 and 18 of a label that is to be drawn into a buffer of some of its rows.
@@ -265,7 +269,7 @@ pub(crate) fn draw_fitting(
 fn judge(list: &[u8], label: &Label, buffer: &mut [u8]) -> Result<(), Refusal> {
     let rows = label.height.min(1);
     match face::draw(list, label, 0..rows, buffer, &mut [0; 1][..rows]) {
-        Ok(_) | Err(Refusal::Room) => Ok(()),
+        Ok(_) | Err(Refusal::Room { .. }) => Ok(()),
         Err(refusal) => Err(refusal),
     }
 }

@@ -91,7 +91,7 @@ fn lent_memory_is_enough() {
     let identity = Transform::identity();
     let drawing = taken(|| {
         let refused = draw_band(&path, &label, 0..60, &mut mask, &mut words);
-        assert_eq!(refused, Err(Refusal::Room));
+        assert_eq!(refused.unwrap_err().number(), 13);
         draw_in_bands(&path, &label, 0..60, 30, &mut mask, &mut words).unwrap();
         bounds(&path, identity).unwrap();
         placement(&path, identity, Point::ZERO, Origin::TopLeft).unwrap();

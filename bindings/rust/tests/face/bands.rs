@@ -1,9 +1,9 @@
 //! Bands drawn by themselves are the whole label, cut; drawn one behind the other they are the whole.
 
-use crate::{k1, rectangle, round_figure};
+use crate::{at, k1, rectangle, round_figure, told};
 use mosszephyr::{
     bands_words, draw, draw_band, draw_in_bands, mask_bytes, workspace_words, Drawn, Fill, Label,
-    Origin, Path, Refusal,
+    Origin, Path,
 };
 
 /// A band's mask and cells, drawn into memory that holds something old.
@@ -143,7 +143,8 @@ fn rows_share_a_small_room() {
     let whole = draw(round_figure(), &label).unwrap();
     let (mut mask, mut words) = (vec![7; 1200], vec![9; workspace_words(1, 41).unwrap()]);
     let refused = draw_band(round_figure(), &label, 0..30, &mut mask, &mut words);
-    assert_eq!((refused, &mask), (Err(Refusal::Room), &vec![7; 1200]));
+    assert_eq!(told(refused.unwrap_err()), at(13, 1, 12));
+    assert_eq!(mask, vec![7; 1200]);
     let drawn = draw_in_bands(round_figure(), &label, 0..30, 1, &mut mask, &mut words).unwrap();
     assert_eq!(
         (drawn.records, drawn.cells),
@@ -152,15 +153,15 @@ fn rows_share_a_small_room() {
     assert_eq!(mask, whole.mask());
 }
 
-/// One place in each row, two in the last: a pool of one place refuses that band, and the mask
-/// shows nothing of those before it.
+/// One place in each row, two in the last: a pool of one place refuses that band, at the list's end,
+/// and the mask shows nothing of those before it.
 #[test]
 fn a_later_band_without_room_leaves_the_mask() {
     let mut path = rectangle(0.0, 0.0, 4.0, 3.0);
     path.move_to((2.0, 2.0));
     let (mut mask, mut words) = ([7; 12], [9; 7]);
     let refused = draw_in_bands(&path, &Label::new(4, 3), 0..3, 1, &mut mask, &mut words);
-    assert_eq!(refused, Err(Refusal::Room));
+    assert_eq!(told(refused.unwrap_err()), at(13, 6, 64));
     assert_eq!((mask, words), ([7; 12], [0; 7]));
 }
 

@@ -6,6 +6,11 @@ const HEADER: &str = include_str!("../../../mosszephyr.h");
 
 const AT: At = At { record: 0, byte: 0 };
 
+const ROOM: Refusal = Refusal::Room {
+    at: AT,
+    at_end: false,
+};
+
 /// Each refusal with its name in the header, in the header's order.
 const REFUSALS: [(&str, Refusal); 14] = [
     ("MZ_SIZE", Refusal::Size),
@@ -20,7 +25,7 @@ const REFUSALS: [(&str, Refusal); 14] = [
     ("MZ_LENGTH", Refusal::Length(AT)),
     ("MZ_START", Refusal::Start(AT)),
     ("MZ_POINT", Refusal::Point(Some(AT))),
-    ("MZ_ROOM", Refusal::Room),
+    ("MZ_ROOM", ROOM),
     ("MZ_AFTER_CLOSE", Refusal::AfterClose(AT)),
 ];
 

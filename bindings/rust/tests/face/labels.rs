@@ -1,7 +1,7 @@
 //! "Labels to try" of docs/RULES.md, as far as a caller can see them: K1 to K8, K11, K12, and the
 //! bytes of K9 and K10 as drawings.
 
-use crate::{closed, drawn, k1, rectangle, JUST_WITHIN};
+use crate::{at, closed, drawn, k1, rectangle, told, JUST_WITHIN};
 use mosszephyr::{
     bounds, draw, draw_band, placement, Bounds, Drawn, Fill, Label, Origin, Path, Placement, Point,
     Refusal, Transform,
@@ -49,10 +49,14 @@ fn k8_lone_move_to() {
     path.move_to((0.0, 0.0));
     let picture = drawn(&path, 1, 1);
     assert_eq!((picture.mask(), picture.cells()), (&[0][..], 1));
-    let (mut mask, mut words) = ([7], [9]);
-    let refused = draw_band(&path, &Label::new(1, 1), 0..1, &mut mask, &mut words);
-    assert_eq!(refused, Err(Refusal::Room));
-    assert_eq!((mask, words), ([7], [0]));
+    for count in 1..=4 {
+        let (mut mask, mut words) = ([7], vec![9; count]);
+        let refused = draw_band(&path, &Label::new(1, 1), 0..1, &mut mask, &mut words);
+        assert_eq!(told(refused.unwrap_err()), at(13, 1, 12));
+        assert_eq!((mask, words), ([7], vec![0; count]));
+    }
+    let accepted = draw_band(&path, &Label::new(1, 1), 0..1, &mut [7], &mut [9; 5]);
+    assert!(accepted.is_ok());
 }
 
 /// A whole pixel wound backwards once, and forwards twice.

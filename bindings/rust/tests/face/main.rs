@@ -10,22 +10,33 @@ mod pictures;
 mod printer;
 mod reading;
 mod refusals;
+mod room;
 mod transforms;
 mod worked;
 
-use mosszephyr::{draw, Label, Path, Picture, Point};
+use std::ops::Range;
+
+use mosszephyr::{
+    draw, draw_band, mask_bytes, workspace_words, Drawn, Label, Path, Picture, Point, Refusal,
+};
 
 /// The largest part of a point that passes, and the next float, which fails.
 const JUST_WITHIN: f32 = 4096.0 + 7.0 / 2048.0;
 const JUST_BEYOND: f32 = 4096.0 + 1.0 / 256.0;
 
-/// Lines through these points, closed.
-fn closed(points: &[(f32, f32)]) -> Path {
+/// Lines through these points.
+fn open(points: &[(f32, f32)]) -> Path {
     let mut path = Path::new();
     path.move_to(points[0]);
     for &point in &points[1..] {
         path.line_to(point);
     }
+    path
+}
+
+/// The same, closed.
+fn closed(points: &[(f32, f32)]) -> Path {
+    let mut path = open(points);
     path.close();
     path
 }
@@ -43,6 +54,35 @@ fn k1() -> Path {
 /// An accepted drawing.
 fn drawn(path: &Path, width: usize, height: usize) -> Picture {
     draw(path, &Label::new(width, height)).expect("the label is accepted")
+}
+
+/// A band drawn at once with a pool of so many places. A 13 leaves the mask as it was, and all words
+/// are 0 behind it too.
+fn with_pool(
+    list: impl AsRef<[u8]>,
+    label: &Label,
+    band: Range<usize>,
+    pool: usize,
+) -> Result<Drawn, Refusal> {
+    let bytes = mask_bytes(label.width, band.len(), label.pitch).unwrap();
+    let count = workspace_words(band.len(), pool).unwrap();
+    let (mut mask, mut words) = (vec![7; bytes], vec![9; count]);
+    let drawn = draw_band(list, label, band, &mut mask, &mut words);
+    if drawn.is_err() {
+        assert_eq!(mask, vec![7; bytes]);
+    }
+    assert_eq!(words, vec![0; count]);
+    drawn
+}
+
+/// A refusal as number, record and byte.
+fn told(refusal: Refusal) -> (u32, Option<usize>, Option<usize>) {
+    (refusal.number(), refusal.record(), refusal.byte())
+}
+
+/// The same of a refusal that names a record.
+fn at(number: u32, record: usize, byte: usize) -> (u32, Option<usize>, Option<usize>) {
+    (number, Some(record), Some(byte))
 }
 
 /// A round figure with a hole, of every command, that reaches past each side of 40 x 30.

@@ -1,7 +1,7 @@
 //! Whole labels: pictures and their rows, a workspace for many, and labels with more places than a
 //! workspace has room for.
 
-use crate::{closed, comb, drawn, k1, round_figure};
+use crate::{at, closed, comb, drawn, k1, round_figure, told};
 use mosszephyr::{
     draw, draw_band, draw_in_bands, workspace_words, Drawn, Label, Origin, Path, Refusal,
     Transform, Workspace, MOST_CELLS,
@@ -68,7 +68,7 @@ fn checksum(bytes: &[u8]) -> u64 {
     })
 }
 
-/// Checksums and cells are those of zeno's code.
+/// Checksums and cells are those of zeno's code, and so is the record that stores a place too many.
 #[test]
 fn the_example_is_drawn_at_any_size() {
     let small = draw(EXAMPLE, &Label::new(640, 240)).unwrap();
@@ -79,7 +79,8 @@ fn the_example_is_drawn_at_any_size() {
         transform: Transform::scale(2.0, 2.0),
         ..Label::new(1280, 480)
     };
-    assert_eq!(at_once(EXAMPLE, &label), Err(Refusal::Room));
+    let refusal = at_once(EXAMPLE, &label).unwrap_err();
+    assert_eq!(told(refusal), at(13, 1_239, 19_564));
     let large = draw(EXAMPLE, &label).unwrap();
     assert_eq!(checksum(large.mask()), 0x6962_F6BC_4857_D771);
     assert_eq!((large.records(), large.cells()), (small.records(), 16_494));
@@ -109,20 +110,22 @@ fn row_by_row(list: &Path, label: &Label) -> (Vec<u8>, usize) {
     (mask, cells)
 }
 
-/// As many places as there can be: with 128 rows of 129 it is 13, with 127 it is not.
+/// As many places as there can be: with 128 rows of 129 it is 13, with 127 it is not. Each line stores
+/// one in each row, and the pool holds those of so many lines.
 #[test]
 fn rows_full_of_places_are_drawn() {
-    for (width, height, origin) in [
-        (128, 128, Origin::TopLeft),
-        (256, 130, Origin::BottomLeft),
-        (4096, 8, Origin::TopLeft),
+    for (width, height, origin, lines) in [
+        (128, 128, Origin::TopLeft, 128),
+        (256, 130, Origin::BottomLeft, 126),
+        (4096, 8, Origin::TopLeft, 2_048),
     ] {
         let path = comb(width, height);
         let label = Label {
             origin,
             ..Label::new(width.into(), height.into())
         };
-        assert_eq!(at_once(path.as_bytes(), &label), Err(Refusal::Room));
+        let refusal = at_once(path.as_bytes(), &label).unwrap_err();
+        assert_eq!(told(refusal), at(13, 1 + lines, 12 * (1 + lines)));
         let (mask, cells) = row_by_row(&path, &label);
         assert_eq!(cells, (label.width + 1) * label.height);
 
@@ -141,7 +144,7 @@ fn the_fullest_rows_fit_by_three() {
     let mut mask = vec![7; 4096 * 8];
     let mut words = vec![9; workspace_words(8, MOST_CELLS).unwrap()];
     let mut by = |step| draw_in_bands(&path, &label, 0..8, step, &mut mask, &mut words);
-    assert_eq!(by(4), Err(Refusal::Room));
+    assert_eq!(told(by(4).unwrap_err()), at(13, 4_097, 12 * 4_097));
     let (records, cells) = (4098, 4097 * 8);
     assert_eq!(by(3), Ok(Drawn { records, cells }));
 }

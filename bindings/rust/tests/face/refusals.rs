@@ -2,22 +2,12 @@
 
 use std::ops::Range;
 
-use crate::{dice, faulty_labels, k1, JUST_BEYOND, JUST_WITHIN};
+use crate::{at, dice, faulty_labels, k1, told, JUST_BEYOND, JUST_WITHIN};
 use mosszephyr::{
     bounds, draw, draw_band, draw_in_bands, placement, Command, Label, Origin, Path, Point,
     Refusal, Transform,
 };
 use Command::{CurveTo, LineTo, MoveTo, QuadTo};
-
-/// A refusal as number, record and byte.
-fn told(refusal: Refusal) -> (u32, Option<usize>, Option<usize>) {
-    (refusal.number(), refusal.record(), refusal.byte())
-}
-
-/// Where a record is at fault.
-fn at(number: u32, record: usize, byte: usize) -> (u32, Option<usize>, Option<usize>) {
-    (number, Some(record), Some(byte))
-}
 
 /// K1's path in a band, at once and row by row, with so many bytes and words; both must stay as they
 /// were.
@@ -271,17 +261,23 @@ fn offset_of_an_empty_path_is_12_in_a_placement() {
     assert!(draw(Path::new(), &label).is_ok());
 }
 
-/// K1 stores two places, so a pool of one is too small.
+/// K1 stores two places, so a pool of one is too small: the second is stored by the end.
 #[test]
 fn room_is_13() {
     let label = Label::new(4, 3);
+    let words = "the drawing needs more places than the workspace has room for";
     for count in 3..11 {
-        let (mut mask, mut words) = ([7; 12], vec![9; count]);
-        let refusal = draw_band(k1(), &label, 0..3, &mut mask, &mut words).unwrap_err();
-        assert_eq!((refusal, told(refusal)), (Refusal::Room, (13, None, None)));
-        let said = "the drawing needs more places than the workspace has room for";
-        assert_eq!(refusal.words(), said);
-        assert_eq!((mask, words), ([7; 12], vec![0; count]));
+        let (mut mask, mut lent) = ([7; 12], vec![9; count]);
+        let refusal = draw_band(k1(), &label, 0..3, &mut mask, &mut lent).unwrap_err();
+        let (place, expected) = match count {
+            ..7 => ("record 2 (byte 24)", at(13, 2, 24)),
+            _ => ("the list's end, record 5 (byte 52)", at(13, 5, 52)),
+        };
+        assert_eq!((told(refusal), refusal.words()), (expected, words));
+        assert!(matches!(refusal, Refusal::Room { .. }));
+        let said = format!("refused with 13 at {place}: {words}");
+        assert_eq!(refusal.to_string(), said);
+        assert_eq!((mask, lent), ([7; 12], vec![0; count]));
     }
     let (mut mask, mut words) = ([7; 12], [9; 11]);
     assert!(draw_band(k1(), &label, 0..3, &mut mask, &mut words).is_ok());

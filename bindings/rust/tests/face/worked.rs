@@ -4,11 +4,13 @@
 //! tests/worked/ holds the same label with all its 17 rows: drawn by zeno's code too, with 115
 //! cells; its rows 3 to 13 are those of bindings/worked/.
 
+use std::iter::repeat_n;
 use std::ops::Range;
 
+use crate::{at, told, with_pool};
 use mosszephyr::{
-    bands_words, draw, draw_band, draw_in_bands, Drawn, Fill, Label, Origin, Point, Refusal,
-    Transform, Workspace,
+    bands_words, draw, draw_band, draw_in_bands, Drawn, Fill, Label, Origin, Point, Transform,
+    Workspace,
 };
 
 const LIST: &[u8] = include_bytes!("../../../worked/slanted.mzp");
@@ -82,14 +84,55 @@ fn draw_band_draws_the_stored_mask() {
 fn draw_in_bands_draws_the_stored_mask_in_steps_of_three() {
     for stored in STORED {
         let label = slanted(stored.fill);
-        for step in [0, 1, 2, 3, 4, 5, 6, 7, 8, 9, 10, 11, 29, usize::MAX] {
+        for step in [0, 1, 3] {
             let (mut mask, mut words) = (vec![OLD; stored.band.len()], vec![7; WORDS]);
             let drawn = draw_in_bands(LIST, &label, BAND, step, &mut mask, &mut words);
-            if [0, 1, 3].contains(&step) {
-                assert_eq!((drawn, &mask[..]), (Ok(OF_BAND), stored.band), "{step}");
-            } else {
-                assert_eq!(drawn, Err(Refusal::Room), "{step}");
-                assert!(mask.iter().all(|&byte| byte == OLD));
+            assert_eq!((drawn, &mask[..]), (Ok(OF_BAND), stored.band), "{step}");
+        }
+    }
+}
+
+/// Into how many places each record is the first to store, by zeno: of the band and of all rows.
+const PLACES: [(Range<usize>, Drawn, [usize; 12]); 2] = [
+    (BAND, OF_BAND, [0, 15, 5, 11, 0, 16, 9, 7, 18, 1, 11, 0]),
+    (0..17, OF_WHOLE, [0, 23, 8, 12, 0, 23, 11, 8, 18, 1, 11, 0]),
+];
+
+/// At once, with each pool that is too small, and with the one that is just enough.
+#[test]
+fn the_record_without_room_is_zenos() {
+    let label = slanted(Fill::NonZero);
+    for (band, all, places) in PLACES {
+        let each = (0..12).flat_map(|record| repeat_n(record, places[record]));
+        for (pool, record) in each.enumerate() {
+            let refusal = with_pool(LIST, &label, band.clone(), pool).unwrap_err();
+            let expected = (13, Some(record));
+            assert_eq!((refusal.number(), refusal.record()), expected, "{pool}");
+        }
+        assert_eq!(with_pool(LIST, &label, band, all.cells), Ok(all));
+    }
+}
+
+/// Other steps with the record, and its byte, at which zeno stores a place too many: by 2 in the
+/// second band, by all others in the first.
+#[test]
+fn other_steps_run_out_of_room() {
+    for (steps, record, byte) in [
+        (2..=2, 10, 136),
+        (4..=5, 8, 112),
+        (6..=7, 7, 100),
+        (8..=10, 5, 68),
+        (11..=30, 3, 52),
+        (usize::MAX..=usize::MAX, 3, 52),
+    ] {
+        for step in steps {
+            for fill in [Fill::EvenOdd, Fill::NonZero] {
+                let (mut mask, mut words) = ([OLD; 314], [7; WORDS]);
+                let label = slanted(fill);
+                let refused = draw_in_bands(LIST, &label, BAND, step, &mut mask, &mut words);
+                let refusal = told(refused.unwrap_err());
+                assert_eq!(refusal, at(13, record, byte), "{step}");
+                assert_eq!((mask, words), ([OLD; 314], [0; WORDS]));
             }
         }
     }
@@ -102,7 +145,7 @@ fn bands_words_counts_the_workspace() {
     let (mut mask, mut words) = ([OLD; 314], [7; WORDS - 1]);
     let label = slanted(Fill::EvenOdd);
     let refused = draw_in_bands(LIST, &label, BAND, 3, &mut mask, &mut words);
-    assert_eq!(refused, Err(Refusal::Room));
+    assert_eq!(told(refused.unwrap_err()), at(13, 8, 112));
 }
 
 /// A picture's bytes between the rows are 0.
