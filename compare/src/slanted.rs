@@ -50,21 +50,35 @@ fn three_rows_and_one_are_the_only_steps() {
     assert_eq!(outcome_in(&word_less, Way::InBands(3)).number, 13);
 }
 
+/// The band and the record of 13, by either fill.
+fn refused(words: usize, way: Way) -> (usize, usize) {
+    let [even_odd, nonzero] = [Fill::EvenOdd, Fill::NonZero].map(|fill| {
+        let call = slanted(fill, words);
+        let outcome = outcome_in(&call, way);
+        let full = alone::first_full(&call, way).expect("no room");
+        assert_eq!((outcome.number, outcome.index), (13, full.record));
+        full
+    });
+    assert_eq!(even_odd, nonzero);
+    (even_odd.band, even_odd.record)
+}
+
+/// How many places each record is the first to store into: so every pool names its record.
+#[test]
+fn the_cells_by_record_are_zenos() {
+    let cells = [0, 15, 5, 11, 0, 16, 9, 7, 18, 1, 11, 0];
+    let records = cells.into_iter().enumerate();
+    let by: Vec<usize> = records.flat_map(|(record, n)| vec![record; n]).collect();
+    assert_eq!(by.len(), 93);
+    for (pool, record) in by.into_iter().enumerate() {
+        assert_eq!(refused(11 + 4 * pool, Way::AtOnce), (0, record), "{pool}");
+    }
+}
+
 /// The records that those tests have where there is no room: by a step of 2 for the second band, by
 /// the others for the first.
 #[test]
 fn the_records_without_room_are_zenos() {
-    let refused = |words: usize, way: Way| {
-        let [even_odd, nonzero] = [Fill::EvenOdd, Fill::NonZero].map(|fill| {
-            let call = slanted(fill, words);
-            let outcome = outcome_in(&call, way);
-            let full = alone::first_full(&call, way).expect("no room");
-            assert_eq!((outcome.number, outcome.index), (13, full.record));
-            full
-        });
-        assert_eq!(even_odd, nonzero);
-        (even_odd.band, even_odd.record)
-    };
     assert_eq!(refused(WORDS, Way::InBands(2)), (1, 10));
     for (steps, record) in [(4..=5, 8), (6..=7, 7), (8..=10, 5), (11..=30, 3)] {
         for step in steps {

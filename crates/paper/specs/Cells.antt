@@ -82,16 +82,17 @@ stored l pen ms = trail l pen ms ++ finish l (penAfter pen ms)
 abbrev pub corner : Spot  -- the pen's point before the first command
 corner = record { x = +0; y = +0 }
 
-unfoldable pub cellsOf : Label → List Command → List Pair
+unfoldable pub cellsOf : Label → List Command → List Pair  -- what a path stores
 cellsOf l cs = stored l lifted (marks l corner corner cs)
 
+-- a list for each list of marks, the pen going on from one to the next; with the last one the last cell
 unfoldable pub storedBy : Label → Pen → List (List Mark) → List (List Pair)
 storedBy l pen [] = []
 storedBy l pen (ms ∷ []) = stored l pen ms ∷ []
 storedBy l pen (ms ∷ next ∷ rest) = trail l pen ms ∷ storedBy l (penAfter pen ms) (next ∷ rest)
 
--- the same, by the record that stores it: the one that leaves a cell, and not the one that gave it ink. What closing at
--- the end and the last cell store is by the end, the last of these lists
+-- what each record of a path stores: that is the one that leaves a cell, and not the one that gave it ink. The last list
+-- is the end's, by closing and by the last cell
 unfoldable pub cellsBy : Label → List Command → List (List Pair)
 cellsBy l cs = storedBy l lifted (marksBy l corner corner cs)
 
