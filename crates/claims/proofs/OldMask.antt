@@ -1,7 +1,6 @@
 -- Two drawings that differ in old mask bytes: the checks look at the mask's length only, and a written byte is a pixel of the deposits.
 use Prim.Native.Nat.{ℕ}
 use mathlib.Core.Path.{_≡_, refl, sym, _∙_}
-use mathlib.Core.Bool.{true, false}
 use mathlib.Core.List.{List}
 use mathlib.Core.Option.{Option, none, some}
 use native.Mathlib.Omega.{arith}

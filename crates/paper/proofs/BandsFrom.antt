@@ -8,13 +8,12 @@ use native.Mathlib.Omega.{arith}
 use native.Mathlib.Nat.{mul-add, mul-comm, mul-le-mul}
 use borrow.Author.Tests.{ltb-true, lt-ltb}
 use lib.Dec.{ltb}
-use Rattle.float.proofs.Differences.{which}
 use Rattle.command.specs.declared.Command.{Command}
 use Rattle.label.specs.declared.Label.{Label}
 use Rattle.paper.specs.TurnedAway.{mostPixels}
 use Rattle.paper.specs.Drawing.{full, oneFull, recordOf, firstOf, band, bandsFrom}
 use Rattle.paper.specs.Demands.{TooMany, RunsOut}
-use Rattle.paper.proofs.Room.{named, too-many, one-record}
+use Rattle.paper.proofs.Room.{neither, named, too-many, one-record}
 
 either : (a b : Bool) → (a || b) ≡ true → (a ≡ true) ⊎ (b ≡ true)
 either true b e = inl refl
@@ -25,29 +24,40 @@ or-true true = refl
 or-true false = refl
 
 module _ (step : ℕ) (l : Label) (words : ℕ) (cs : List Command) where
-  abbrev Many : ℕ → ℕ → Type 0
-  Many a b = TooMany (band l a b) words cs
+  -- the k-th band from a row on
+  abbrev Own : ℕ → ℕ → Label
+  Own from k = band l (from + k * step) (min (l .end) (from + (k + 1) * step))
 
   abbrev One : ℕ → Type 0
-  One from = (k : ℕ) × (from + k * step < l .end) × Many (from + k * step) (min (l .end) (from + (k + 1) * step))
+  One from = (k : ℕ) × (from + k * step < l .end) × TooMany (Own from k) words cs
 
   next : (k : ℕ) → (k + 1) * step ≡ k * step + step
   next k = mul-comm (k + 1) step ∙ mul-add step k 1 ∙ omega (arith, mul-comm k step)
 
-  -- the first band
-  at-first : (from : ℕ) → from < l .end → Many from (min (l .end) (from + step)) → One from
-  at-first from h m =
+  own-first : (from : ℕ) → Own from 0 ≡ band l from (min (l .end) (from + step))
+  own-first from =
       let e : from + 0 * step ≡ from = omega arith in
       let g : from + (0 + 1) * step ≡ from + step = omega arith in
-      (0, omega arith, rw (e, g) m)
+      rw (e, g)
 
-  -- one behind it
-  behind : (from : ℕ) → One (min (l .end) (from + step)) → One from
-  behind from (k, a, m) =
+  -- the k-th band behind the first is the next of the whole
+  own-next : (from k : ℕ) → min (l .end) (from + step) + k * step < l .end → Own (min (l .end) (from + step)) k ≡ Own from (k + 1)
+  own-next from k a =
       let e : min (l .end) (from + step) + k * step ≡ from + (k + 1) * step = omega (arith, next k) in
       let more = next (k + 1) in
       let g : min (l .end) (from + step) + (k + 1) * step ≡ from + (k + 1 + 1) * step = omega (arith, next k) in
-      (k + 1, omega arith, rw (e, g) at m)
+      rw (e, g)
+
+  own-behind : (from k : ℕ) → min (l .end) (from + step) + k * step < l .end → Own from (suc k) ≡ Own (min (l .end) (from + step)) k
+  own-behind from k a = let e : suc k ≡ k + 1 = omega arith in ap (Own from) e ∙ sym (own-next from k a)
+
+  -- the first band
+  at-first : (from : ℕ) → from < l .end → TooMany (band l from (min (l .end) (from + step))) words cs → One from
+  at-first from h m = (0, omega arith, subst (λ (b : Label). TooMany b words cs) (sym (own-first from)) m)
+
+  -- one behind it
+  behind : (from : ℕ) → One (min (l .end) (from + step)) → One from
+  behind from (k, a, m) = (k + 1, omega (arith, next k), subst (λ (b : Label). TooMany b words cs) (own-next from k a) m)
 
   -- the bands from a row on, by the test whether there is one
   abbrev by-test : ℕ → ℕ → Bool → List Label
@@ -93,46 +103,26 @@ module _ (step : ℕ) (l : Label) (words : ℕ) (cs : List Command) where
     calls-left : (end from n : ℕ) → end - from ≤ suc n → from < end → end - min end (from + step) ≤ n
     calls-left end from n f h = omega arith
 
-    pub full-one : (n from : ℕ) → l .end - from ≤ n → (k : ℕ) → from + k * step < l .end
-        → Many (from + k * step) (min (l .end) (from + (k + 1) * step))
+    pub full-one : (n from : ℕ) → l .end - from ≤ n → (k : ℕ) → from + k * step < l .end → TooMany (Own from k) words cs
         → oneFull words cs (bandsFrom n step l from) ≡ true
     full-one zero from f k a m = absurd (omega arith)
     full-one (suc n) from f zero a m =
-        let e : from + 0 * step ≡ from = omega arith in
-        let g : from + (0 + 1) * step ≡ from + step = omega arith in
-        two n from (omega arith) ∙ ap (λ (b : Bool). b || rest n from) (lt-ltb _ _ (rw (e, g) at m))
+        two n from (omega arith)
+        ∙ ap (λ (b : Bool). b || rest n from) (lt-ltb _ _ (subst (λ (b : Label). TooMany b words cs) (own-first from) m))
     full-one (suc n) from f (suc k) a m =
         let one : suc k * step ≡ k * step + step = ap (λ (n : ℕ). n * step) (omega arith) ∙ next k in
-        let more : (suc k + 1) * step ≡ suc k * step + step = next (suc k) in
         let less : from < l .end = omega arith in
-        let e : from + suc k * step ≡ min (l .end) (from + step) + k * step = omega arith in
-        let g : from + (suc k + 1) * step ≡ min (l .end) (from + step) + (k + 1) * step = omega (arith, next k) in
+        let inner : min (l .end) (from + step) + k * step < l .end = omega arith in
         let left = calls-left (l .end) from n f less in
-        let behind = full-one n (min (l .end) (from + step)) left k (rw e at a) (rw (e, g) at m) in
+        let own = subst (λ (b : Label). TooMany b words cs) (own-behind from k inner) m in
+        let behind = full-one n (min (l .end) (from + step)) left k inner own in
         two n from less ∙ ap (λ (b : Bool). here from || b) behind ∙ or-true (here from)
 
   -- ---- the record: record i runs out in the k-th band, and none before that is full
-  abbrev Own : ℕ → ℕ → Label
-  Own from k = band l (from + k * step) (min (l .end) (from + (k + 1) * step))
-
   abbrev First : ℕ → ℕ → Type 0
   First from i =
       (k : ℕ) × (from + k * step < l .end) × ((j : ℕ) → j < k → ¬ TooMany (Own from j) words cs)
       × RunsOut (Own from k) words cs i
-
-  own-first : (from : ℕ) → Own from 0 ≡ band l from (min (l .end) (from + step))
-  own-first from =
-      let e : from + 0 * step ≡ from = omega arith in
-      let g : from + (0 + 1) * step ≡ from + step = omega arith in
-      rw (e, g)
-
-  -- the k-th band behind the first is the next of the whole
-  own-next : (from k : ℕ) → min (l .end) (from + step) + k * step < l .end → Own (min (l .end) (from + step)) k ≡ Own from (k + 1)
-  own-next from k a =
-      let e : min (l .end) (from + step) + k * step ≡ from + (k + 1) * step = omega (arith, next k) in
-      let more = next (k + 1) in
-      let g : min (l .end) (from + step) + (k + 1) * step ≡ from + (k + 1 + 1) * step = omega (arith, next k) in
-      rw (e, g)
 
   first-two : (n from : ℕ) → from < l .end
       → firstOf words cs (bandsFrom (suc n) step l from)
@@ -158,10 +148,8 @@ module _ (step : ℕ) (l : Label) (words : ℕ) (cs : List Command) where
         before : (j : ℕ) → j < k + 1 → ¬ TooMany (Own from j) words cs
         before zero p m = not-both (here from) t (lt-ltb _ _ (subst (λ (b : Label). TooMany b words cs) (own-first from) m))
         before (suc j) p m =
-            let e : suc j ≡ j + 1 = omega arith in
             let less : j * step ≤ k * step = mul-le-mul {m₂ = step} (omega arith) (omega arith) in
-            let same : Own from (suc j) ≡ Own (min (l .end) (from + step)) j = ap (Own from) e ∙ sym (own-next from j (omega arith)) in
-            few j (omega arith) (subst (λ (b : Label). TooMany b words cs) same m)
+            few j (omega arith) (subst (λ (b : Label). TooMany b words cs) (own-behind from j (omega arith)) m)
 
     pub first-full : (n from : ℕ) → oneFull words cs (bandsFrom n step l from) ≡ true → First from (firstOf words cs (bandsFrom n step l from))
     first-full zero from e = not-both (oneFull words cs (bandsFrom zero step l from)) (no-bands from) e
@@ -185,10 +173,8 @@ module _ (step : ℕ) (l : Label) (words : ℕ) (cs : List Command) where
 
     -- and no other
     pub one-first : (from i j : ℕ) → First from i → First from j → i ≡ j
-    one-first from i j (k, a, few, out) (k′, a′, few′, out′) = ⊎-elim
-        (λ (h : k < k′). absurd (few′ k h (too-many (Own from k) w words cs i out)))
-        (λ (h : k′ ≤ k). ⊎-elim
-        (λ (h′ : k′ < k). absurd (few k′ h′ (too-many (Own from k′) w words cs j out′)))
-        (λ (h′ : k ≤ k′). let e : k′ ≡ k = omega arith in one-record (Own from k) w words cs i j out (subst (λ (n : ℕ). RunsOut (Own from n) words cs j) e out′))
-        (which k′ k))
-        (which k k′)
+    one-first from i j (k, a, few, out) (k′, a′, few′, out′) =
+        let e : k′ ≡ k = neither k′ k
+        (λ h. few k′ h (too-many (Own from k′) w words cs j out′))
+        (λ h. few′ k h (too-many (Own from k) w words cs i out)) in
+        one-record (Own from k) w words cs i j out (subst (λ (n : ℕ). RunsOut (Own from n) words cs j) e out′)

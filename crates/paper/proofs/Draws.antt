@@ -23,7 +23,7 @@ use Rattle.label.specs.Checks.{sizesOf, andThen, checkedOf}
 use Rattle.label.specs.Draw as label
 use Rattle.label.specs.Draw.{numbersOf, logOf, tooMany, roomFor, ranOut, drawnFrom, checkedDraw, drawBy, drawOf}
 use Rattle.claims.specs.Bands.{bandOf}
-use Rattle.bands.specs.InBands.{bandEnd, tooManyFrom, tooManyInBand, roomFrom, roomInBand, ranOutInBand, drawInBandsOf}
+use Rattle.bands.specs.InBands.{bandEnd, tooManyFrom, roomFrom, ranOutInBand, drawInBandsOf}
 use Rattle.paper.specs.Steps.{mostBands}
 use Rattle.paper.specs.TurnedAway.{rows, mostPixels, sizeFault, Read, path, readList}
 use Rattle.paper.specs.Cells.{cellsOf, distinct}
@@ -32,7 +32,7 @@ use Rattle.paper.specs.Drawing.{Outcome, left, refused, pool, full, oneF
 use Rattle.paper.proofs.Places.{distinct-held}
 use Rattle.paper.proofs.Bytes.{painted-held}
 use Rattle.paper.proofs.Marks.{AllPassed, cells-held, cells-in}
-use Rattle.paper.proofs.Room.{record-held}
+use Rattle.paper.proofs.Room.{picked, record-held}
 use Rattle.paper.proofs.Reading.{numbered, list-held, PassedRead, list-passed}
 
 -- an outcome in the paper's numbers
@@ -179,10 +179,6 @@ module _ (step : ℕ) (l : Label) (words : ℕ) (cs : List Command) (w : l .widt
   first-band n from to true e =
       picked (full words cs (band l from to)) (recordOf words cs (band l from to)) (firstOf words cs (bandsFrom n step l to))
       ∙ rw (full-held words (band l from to) cs w h, record-held (band l from to) w words cs h, e)
-    where
-      picked : (t : Bool) (i j : ℕ) → (elim t as (λ _. ℕ) [ true ↦ i | false ↦ j ]) ≡ cond t i j
-      picked true i j = refl
-      picked false i j = refl
   first-band n from to false e = refl
 
   first-from : (n from : ℕ) → firstOf words cs (bandsFrom n step l from) ≡ roomFrom n step l words cs from

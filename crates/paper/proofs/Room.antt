@@ -102,6 +102,10 @@ module _ (l : Label) (cs : List Command) where
   cells-long = by-long l lifted (marksBy l corner corner cs) ∙ one-more l corner corner cs
 
 -- ---- how many fit, as the crates below count it
+pub picked : (t : Bool) (i j : ℕ) → (elim t as (λ _. ℕ) [ true ↦ i | false ↦ j ]) ≡ cond t i j
+picked true i j = refl
+picked false i j = refl
+
 module _ (l : Label) (w : l .width ≤ mostPixels) where
   fits-held : (room : ℕ) (before : List Pair) (each : List (List Pair)) → AllIn l before → EachIn l each
       → fitting room before each ≡ storing.fitting room (map (heldPair l) before) (map (map (heldPair l)) each)
@@ -113,12 +117,11 @@ module _ (l : Label) (w : l .width ≤ mostPixels) where
       let count : distinct (before ++ ds) ≡ held.distinct (map (heldPair l) before ++ map (heldPair l) ds) = distinct-held l (before ++ ds) w all ∙ ap held.distinct same in
       let go : fitting room (before ++ ds) rest ≡ storing.fitting room (map (heldPair l) before ++ map (heldPair l) ds) (map (map (heldPair l)) rest) =
       fits-held room (before ++ ds) rest all (k .1) ∙ ap (λ (log : List Deposit). storing.fitting room log (map (map (heldPair l)) rest)) same in
-      ap (λ (n : ℕ). elim (ltb room n) as (λ _. ℕ) [ true ↦ 0 | false ↦ suc (fitting room (before ++ ds) rest) ]) count
-      ∙ picked (ltb room (held.distinct (map (heldPair l) before ++ map (heldPair l) ds))) _ _ go
-    where
-      picked : (t : Bool) (n m : ℕ) → n ≡ m → (elim t as (λ _. ℕ) [ true ↦ 0 | false ↦ suc n ]) ≡ cond t 0 (1 + m)
-      picked true n m e = refl
-      picked false n m e = omega arith
+      let n = fitting room (before ++ ds) rest in
+      let few = ltb room (held.distinct (map (heldPair l) before ++ map (heldPair l) ds)) in
+      ap (λ (n′ : ℕ). elim (ltb room n′) as (λ _. ℕ) [ true ↦ 0 | false ↦ suc n ]) count
+      ∙ picked few 0 (suc n)
+      ∙ ap (cond few 0) (omega arith)
 
   pub record-held : (words : ℕ) (cs : List Command) → AllPassed (l .transform) (l .offset) cs → recordOf words cs l ≡ roomFor l words cs
   record-held words cs h =
@@ -183,6 +186,12 @@ module _ (room : ℕ) where
           let m = more (ltb-false _ _ e) in
           (omega (arith, m .0), rw (← append-assoc before ds (flatten (take (suc (fitting room (before ++ ds) rest)) rest))) (m .1))
 
+pub neither : (i j : ℕ) → ¬ (i < j) → ¬ (j < i) → i ≡ j
+neither i j less more = ⊎-elim
+    (λ (h : i < j). absurd (less h))
+    (λ (h : j ≤ i). ⊎-elim (λ (k : j < i). absurd (more k)) (λ (k : i ≤ j). omega arith) (which j i))
+    (which i j)
+
 -- THE RECORD
 module _ (l : Label) (w : l .width ≤ mostPixels) (words : ℕ) (cs : List Command) where
   grows : (i j : ℕ) → i ≤ j → placesOf l cs i ≤ placesOf l cs j
@@ -205,10 +214,6 @@ module _ (l : Label) (w : l .width ≤ mostPixels) (words : ℕ) (cs : List Comm
 
   -- and no other
   pub one-record : (i j : ℕ) → RunsOut l words cs i → RunsOut l words cs j → i ≡ j
-  one-record i j (a, b, c) (d, e, f) = ⊎-elim
-      (λ (h : i < j). absurd (let g = grows (i + 1) j (omega arith) in omega arith))
-      (λ (h : j ≤ i). ⊎-elim
-      (λ (h′ : j < i). absurd (let g = grows (j + 1) i (omega arith) in omega arith))
-      (λ (h′ : i ≤ j). omega arith)
-      (which j i))
-      (which i j)
+  one-record i j (a, b, c) (d, e, f) = neither i j
+      (λ h. let g = grows (i + 1) j (omega arith) in omega arith)
+      (λ h. let g = grows (j + 1) i (omega arith) in omega arith)

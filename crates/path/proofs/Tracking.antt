@@ -11,7 +11,6 @@ use Rattle.storage.specs.declared.Kept.{Kept}
 use Rattle.storage.specs.declared.Kept.the-variants as kept
 use Rattle.storage.specs.Deposits.{Deposit, distinct}
 use Rattle.storage.specs.Laws.{distinct-mono}
-use Rattle.storage.specs.Cells.{Holds}
 use Rattle.storage.specs.Answers as store
 use Rattle.command.specs.declared.Command.{Command}
 use Rattle.list.specs.declared.Reason.{Reason}
@@ -19,17 +18,15 @@ use Rattle.list.specs.declared.Step.the-variants as step
 use Rattle.list.specs.Records.{stepAt}
 use Rattle.list.proofs.Next.{next-in}
 use Rattle.pen.specs.declared.Frame.{Frame}
-use Rattle.pen.specs.Marks.{Mark, Stand, Pair, nowhere, after, left, whole, seen, deposits}
+use Rattle.pen.specs.Marks.{Mark, Stand, nowhere, after, left, whole, seen, deposits}
 use Rattle.pen.specs.Laws.{left-append, whole-append, seen-append}
 use Rattle.pen.specs.Drawing.{rows, width, Holding, Added, Drew, lifted, standOf}
 use Rattle.pen.proofs.Adding.{drew-none, drew-then}
-use Rattle.raster.specs.declared.Stroke.{Stroke}
 use Rattle.raster.specs.declared.Track.{Track}
-use Rattle.raster.specs.Path.{begun, strokeMarks, pointAfter, startAfter, marksFrom, marks, depositsOf, endOf}
+use Rattle.raster.specs.Path.{begun, strokeMarks, marksFrom, marks, depositsOf, endOf}
 use Rattle.raster.specs.Tracing.{ReachAll, Sound, Stroked}
 use Rattle.raster.proofs.Told.{still-sound, marks-end, marks-stroke}
 use Rattle.line.specs.Lines.{lineMarks}
-use Rattle.path.specs.declared.Pool.{Pool}
 use Rattle.path.specs.declared.Pool.the-variants.{Cells, Full}
 use Rattle.path.specs.Reading.{path, readList}
 use Rattle.path.specs.Strokes.{strokeOf, strokesOf}
