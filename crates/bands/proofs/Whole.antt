@@ -17,7 +17,7 @@ use Rattle.path.specs.Reading.{path}
 use Rattle.label.specs.declared.Label.{Label}
 use Rattle.label.specs.declared.Answer.the-variants.{Drawn, Refused}
 use Rattle.label.specs.Checks.{rows}
-use Rattle.label.specs.Draw.{Outcome, outcome, poolOf, paintedOf, wiped, logOf, tooMany, inked, drawBy, drawOf}
+use Rattle.label.specs.Draw.{Outcome, outcome, poolOf, paintedOf, wiped, logOf, drawnAs, tooMany, inked, drawBy, drawOf}
 use Rattle.label.specs.Inking.{Sized, Inked}
 use Rattle.label.proofs.Sizes.{fitting}
 use Rattle.label.proofs.Drawing.{by-path, drawn-from}
@@ -31,17 +31,17 @@ use Rattle.bands.proofs.Cells.{sub-log}
 use Rattle.bands.proofs.Rows.{none-left, none-behind, one-band}
 
 -- ---- the outcome of an accepted list
-module _ (l : Label) (step records : ℕ) (s mask words : List ℕ) where
+module _ (l : Label) (step records cut : ℕ) (s mask words : List ℕ) where
   pub inked-full : (ws′ ws″ : List ℕ) → ws″ ≡ replicate (length ws′) 0 → length ws′ ≡ length words → (k : Pool) (i : ℕ) → k ≡ Full i → Counted l step s (length words) k
-      → Inked (ranOutInBand step l (length words)) l records s mask words (outcome (Refused refusal.Full i) mask ws″)
+      → Inked (ranOutInBand step l (length words)) l records cut s mask words (outcome (Refused refusal.Full i) mask ws″)
   unfolding inked
-  inked-full ws′ ws″ e long k i f C = record { rule = λ cs r m. rw (C .full i f cs r, C .named i f cs r, e, long) }
+  inked-full ws′ ws″ e long k i f C = record { rule = λ cs r m m′. rw (C .full i f cs r, C .named i f cs r, e, long) }
 
   pub inked-cells : (ws′ ws″ mask′ : List ℕ) → ws″ ≡ replicate (length ws′) 0 → length ws′ ≡ length words → (k : Pool) (n : ℕ) → k ≡ Cells n → Counted l step s (length words) k
-      → Painted l step s (length words) mask mask′ → Inked (ranOutInBand step l (length words)) l records s mask words (outcome (Drawn records n) mask′ ws″)
+      → Painted l step s (length words) mask mask′ → Inked (ranOutInBand step l (length words)) l records cut s mask words (outcome (Drawn records n cut) mask′ ws″)
   unfolding inked
   inked-cells ws′ ws″ mask′ e long k n f C P = record {
-    rule = λ cs r m. let fit = C .fit n f cs r in rw (fit, e, long, m, C .counted n f cs r, P .painted cs r fit);
+    rule = λ cs r m m′. let fit = C .fit n f cs r in rw (fit, e, long, m, m′, C .counted n f cs r, P .painted cs r fit);
   }
 
 -- ---- a label that fits at once fits in bands
@@ -74,9 +74,9 @@ pub bands-are : (step : ℕ) (l : Label) (s mask words : List ℕ) → drawBy (r
 unfolding drawInBandsOf
 bands-are step l s mask words = refl
 
-module _ (step : ℕ) (l : Label) (s mask words : List ℕ) (records cells : ℕ) (h : drawOf l s mask words .answer ≡ Drawn records cells) where
-  was : Accepted l s (length mask) (length words) records cells
-  was = accepted l s mask words records cells h
+module _ (step : ℕ) (l : Label) (s mask words : List ℕ) (records cells cut : ℕ) (h : drawOf l s mask words .answer ≡ Drawn records cells cut) where
+  was : Accepted l s (length mask) (length words) records cells cut
+  was = accepted l s mask words records cells cut h
 
   some : 0 < max 1 step
   some = omega arith
@@ -87,7 +87,7 @@ module _ (step : ℕ) (l : Label) (s mask words : List ℕ) (records cells : ℕ
   is-fit : tooManyInBand (max 1 step) l (length words) (was .cs) ≡ false
   is-fit = all-fit l (fitting l (length s) (length mask) (length words) (was .fine) .sized) (was .cs) (max 1 step) (length words) some (was .room)
 
-  inks : inked (full (was .cs)) l mask words (was .cs) ≡ outcome (Drawn (length (was .cs)) (distinct (logOf l (was .cs)))) (paintedOf l (logOf l (was .cs)) mask) (wiped words)
+  inks : inked (full (was .cs)) l mask words (was .cs) ≡ outcome (drawnAs l (was .cs)) (paintedOf l (logOf l (was .cs)) mask) (wiped words)
   unfolding inked
   inks = rw is-fit
 

@@ -59,4 +59,4 @@ drawInBandsOf step l s mask words = drawBy (ranOutInBand (max 1 step) l (length 
 
 -- a label that is accepted at once is drawn as at once
 pub record AsAtOnce (once o : Outcome) : Type 0 where
-  pub same : (records cells : ℕ) → once .answer ≡ Drawn records cells → o ≡ once
+  pub same : (records cells cut : ℕ) → once .answer ≡ Drawn records cells cut → o ≡ once

@@ -119,17 +119,18 @@ fn paint(list: &[u8], l: Label, step: usize, mask: &mut [u8], words: &mut [u32])
     }
 }
 
-// Draws an accepted list of so many records.
+// Draws an accepted list of so many records and cut coordinates.
 fn ink(
     list: &[u8],
     l: Label,
     step: usize,
     records: u32,
+    cut: u32,
     mask: &mut [u8],
     words: &mut [u32],
 ) -> Answer
     requires { ⌜ Sized l ⌝ ∗ ⌜ Lent l (length (now mask)) (length (now words)) ⌝ ∗ ⌜ 0 < step ⌝ ∗ ⌜ length (now list) ≤ mostBytes ⌝ }
-    ensures { λ r. ⌜ Inked (ranOutInBand step l (length (now (words .entry)))) l records (now (list .entry)) (now (mask .entry)) (now (words .entry)) (outcome r (now (mask .exit)) (now (words .exit))) ⌝ }
+    ensures { λ r. ⌜ Inked (ranOutInBand step l (length (now (words .entry)))) l records cut (now (list .entry)) (now (mask .entry)) (now (words .entry)) (outcome r (now (mask .exit)) (now (words .exit))) ⌝ }
 {
     match count(list, l, step, words) {
         Pool::Full(i) => {
@@ -145,6 +146,7 @@ fn ink(
             Answer::Drawn {
                 records,
                 cells: n as u32,
+                cut,
             }
         }
     }
@@ -165,7 +167,7 @@ pub fn draw_in_bands(
         Verdict::Faulty(why) => Answer::Refused { why, record: 0 },
         Verdict::Fine => match path::judge(list, l.transform, l.offset) {
             Judged::Refused(why, record) => Answer::Refused { why, record },
-            Judged::Records(n) => ink(list, l, rows_of(step), n, mask, words),
+            Judged::Records { count, cut } => ink(list, l, rows_of(step), count, cut, mask, words),
         },
     }
 }

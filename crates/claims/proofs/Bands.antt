@@ -19,7 +19,7 @@ use Rattle.path.specs.Strokes.{strokesOf}
 use Rattle.label.specs.declared.Label.{Label}
 use Rattle.label.specs.declared.Answer.the-variants.{Drawn}
 use Rattle.label.specs.Checks.{mostPixels, rows, sizesOf, checkedOf}
-use Rattle.label.specs.Draw.{Outcome, outcome, poolOf, paintedOf, wiped, logOf, drawOf}
+use Rattle.label.specs.Draw.{Outcome, outcome, poolOf, paintedOf, wiped, logOf, drawnAs, drawOf}
 use Rattle.label.specs.Inking.{Sized, Lent}
 use Rattle.label.proofs.Sizes.{Fitting, fitting, all-fit, sizes-then}
 use Rattle.label.proofs.Drawing.{answered}
@@ -59,9 +59,9 @@ one-path : {cs cs′ : List Command} → path cs ≡ path cs′ → cs ≡ cs′
 one-path e = cc
 
 -- ---- a whole label that is accepted
-module _ (l : Label) (s mask words : List ℕ) (records cells : ℕ) (h : drawOf (wholeOf l) s mask words .answer ≡ Drawn records cells) where
-  was : Accepted (wholeOf l) s (length mask) (length words) records cells
-  was = accepted (wholeOf l) s mask words records cells h
+module _ (l : Label) (s mask words : List ℕ) (records cells cut′ : ℕ) (h : drawOf (wholeOf l) s mask words .answer ≡ Drawn records cells cut′) where
+  was : Accepted (wholeOf l) s (length mask) (length words) records cells cut′
+  was = accepted (wholeOf l) s mask words records cells cut′ h
 
   fit : Fitting (wholeOf l) (length mask) (length words)
   fit = fitting (wholeOf l) (length s) (length mask) (length words) (was .fine)
@@ -75,7 +75,7 @@ module _ (l : Label) (s mask words : List ℕ) (records cells : ℕ) (h : drawOf
   abbrev log : List Deposit
   log = logOf (wholeOf l) (was .cs)
 
-  whole-drawn : drawOf (wholeOf l) s mask words ≡ outcome (Drawn (length (was .cs)) (distinct log)) (paintedOf (wholeOf l) log mask) (wiped words)
+  whole-drawn : drawOf (wholeOf l) s mask words ≡ outcome (drawnAs (wholeOf l) (was .cs)) (paintedOf (wholeOf l) log mask) (wiped words)
   whole-drawn = draws (wholeOf l) s mask words (was .cs) (was .fine) (was .read) (was .room)
 
   -- the log of whatever path the list is
@@ -117,7 +117,7 @@ module _ (l : Label) (s mask words : List ℕ) (records cells : ℕ) (h : drawOf
         within : {a b c d f : ℕ} → a ≡ b → b ≤ c → c ≤ d → d ≤ f → a ≤ f
         within p q r t = omega arith
 
-    own-drawn : drawOf own s own-mask own-words ≡ outcome (Drawn (length (was .cs)) (distinct own-log)) (paintedOf own own-log own-mask) (wiped own-words)
+    own-drawn : drawOf own s own-mask own-words ≡ outcome (drawnAs own (was .cs)) (paintedOf own own-log own-mask) (wiped own-words)
     own-drawn = draws own s own-mask own-words (was .cs) own-fine (was .read) own-room
 
     own-pixel : (y x : ℕ) → first ≤ y → y < end → x < l .width → pixel (l .fill) own-log (y - first) x ≡ pixel (l .fill) log y x
@@ -140,11 +140,11 @@ module _ (l : Label) (s mask words : List ℕ) (records cells : ℕ) (h : drawOf
         ∙ painted-row (wholeOf l) log mask (fit .sized .pitched) (fit .lent .lines) (y - 0) x (omega arith) r
         ∙ ap (λ (n : ℕ). pixel (l .fill) log n x) e
 
-    pub bands : Agrees l (bandOf (laid l up pitch) first end) s records (drawOf (bandOf (laid l up pitch) first end) s own-mask own-words) (drawOf (wholeOf l) s mask words)
+    pub bands : Agrees l (bandOf (laid l up pitch) first end) s records cut′ (drawOf (bandOf (laid l up pitch) first end) s own-mask own-words) (drawOf (wholeOf l) s mask words)
     bands =
         record {
           cells = distinct own-log;
-          accepted = rw (was .counted) at (answered own-drawn);
+          accepted = rw (was .counted, was .cuts) at (answered own-drawn);
           pixels = λ y x p q r. own-byte y x p q r ∙ sym (whole-byte y x (omega arith) r);
           ruled = λ cs e y x p q r. own-byte y x p q r ∙ ap (λ (ds : List Deposit). pixel (l .fill) ds y x) (same-log cs e);
         }

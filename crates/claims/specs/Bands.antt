@@ -56,11 +56,11 @@ pub record Roomy (l : Label) (mask : List ℕ) : Type 0 where
   pub near : l .pitch ≤ mostPitch
   pub lines : 0 < rows l → l .pitch * (rows l - 1) + l .width ≤ length mask
 
--- of a band of a list and the whole label, as they are drawn: the band is accepted with as many records; each pixel of its rows has the byte that it has in
--- the whole, and that is the rule's for the whole
-pub record Agrees (l band : Label) (s : List ℕ) (records : ℕ) (part whole : Outcome) : Type 0 where
+-- of a band of a list and the whole label, as they are drawn: the band is accepted with as many records and as many cut coordinates; each pixel of its rows
+-- has the byte that it has in the whole, and that is the rule's for the whole
+pub record Agrees (l band : Label) (s : List ℕ) (records cut : ℕ) (part whole : Outcome) : Type 0 where
   pub cells : ℕ
-  pub accepted : part .answer ≡ Drawn records cells
+  pub accepted : part .answer ≡ Drawn records cells cut
   pub pixels : (y x : ℕ) → band .first ≤ y → y < band .end → x < l .width → byteFor band y x (part .mask) ≡ byteFor (wholeOf l) y x (whole .mask)
   pub ruled : (cs : List Command) → readList (l .transform) (l .offset) s ≡ path cs → (y x : ℕ) → band .first ≤ y → y < band .end → x < l .width
       → byteFor band y x (part .mask) ≡ pixel (l .fill) (logOf (wholeOf l) cs) y x

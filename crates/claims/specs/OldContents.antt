@@ -18,12 +18,12 @@ abbrev pub Drawing : Type 0
 Drawing = Label → List ℕ → List ℕ → List ℕ → Outcome
 
 abbrev pub accepts : Answer → Bool
-accepts (Drawn records cells) = true
+accepts (Drawn records cells cut) = true
 accepts (Refused why index) = false
 
 -- 0 or 13
 abbrev pub wipes : Answer → Bool
-wipes (Drawn records cells) = true
+wipes (Drawn records cells cut) = true
 wipes (Refused why index) = eqb (numberOf why) 13
 
 -- ---- the words

@@ -1,3 +1,4 @@
+pub mod Cuts
 pub mod Exact
 pub mod Range
 pub mod Values

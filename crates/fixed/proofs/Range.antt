@@ -14,7 +14,7 @@ use Rattle.fixed.specs.declared.Fix.{Fix}
 use Rattle.fixed.specs.declared.Fix.the-variants.{Fixed, Refused}
 use Rattle.fixed.specs.declared.Spot.{Spot}
 use Rattle.fixed.specs.declared.Spot.the-variants.{At, Outside}
-use Rattle.fixed.specs.Fixed.{limit, bias, heldOf, pickFix, withinLimit, toFixed, oneIf, spotFrom, spotOf, cell}
+use Rattle.fixed.specs.Fixed.{limit, bias, heldOf, pickFix, withinLimit, toFixed, spotFrom, spotOf, cell}
 use Rattle.fixed.specs.Split.{pointOf, mid, mid4, mid8, splitQuad, splitCubic, Between, Within, Every}
 
 -- ---- a mean of numbers
@@ -141,22 +141,13 @@ in-range (fin s m e) = limited s (m * up e * 256 / down e) (not (eqb (m * up e *
 pub fixed-between : (v : Float) (n : ℕ) (c : Bool) → toFixed v ≡ Fixed n c → Between (bias - limit) (bias + limit) n
 fixed-between v n c h = subst InRange h (in-range v)
 
--- with the count of parts that were cut
-pub record Placed (q : FixedPoint) (k : ℕ) : Type 0 where
-  pub within : Within (bias - limit) (bias + limit) q
-  pub cuts : k ≤ 2
-
 abbrev InPlace : Spot → Type 0
-InPlace (At q k) = Placed q k
+InPlace (At q k) = Within (bias - limit) (bias + limit) q
 InPlace Outside = Unit
-
-one-le : (b : Bool) → oneIf b ≤ 1
-one-le true = lit≤ tt
-one-le false = lit≤ tt
 
 placed : (f g : Fix) → InRange f → InRange g → InPlace (spotFrom f g)
 unfolding spotFrom
-placed (Fixed x a) (Fixed y b) p q = record { within = record { x-in = p; y-in = q }; cuts = omega (arith, one-le a, one-le b) }
+placed (Fixed x a) (Fixed y b) p q = record { x-in = p; y-in = q }
 placed (Fixed x a) Refused p q = tt
 placed Refused g p q = tt
 
@@ -164,8 +155,5 @@ in-place : (p : Point) → InPlace (spotOf p)
 unfolding spotOf
 in-place p = placed (toFixed (p .x)) (toFixed (p .y)) (in-range (p .x)) (in-range (p .y))
 
-pub spot-placed : (p : Point) (q : FixedPoint) (k : ℕ) → spotOf p ≡ At q k → Placed q k
-spot-placed p q k h = subst InPlace h (in-place p)
-
 pub spot-within : (p : Point) (q : FixedPoint) (k : ℕ) → spotOf p ≡ At q k → Within (bias - limit) (bias + limit) q
-spot-within p q k h = spot-placed p q k h .within
+spot-within p q k h = subst InPlace h (in-place p)

@@ -35,15 +35,25 @@ pickFix false a b = b
 abbrev pub withinLimit : Bool → ℕ → Bool → Fix
 withinLimit s n r = pickFix (leb n limit) (Fixed (heldOf s n) r) Refused
 
--- The point rule: finite, and times 256, cut toward zero, from −limit to limit. The float is m · 2 ^ e, or −m · 2 ^ e where its sign is set,
--- and 2 ^ e is up e / down e.
+-- Whether something is cut off: 256 times the float is not whole. The float is m · 2 ^ e, or −m · 2 ^ e where its sign is set, and 2 ^ e is
+-- up e / down e.
+abbrev pub isCut : Float → Bool
+isCut nan = false
+isCut (inf s) = false
+isCut (fin s m e) = not (eqb (m * up e * 256 % down e) 0)
+
+-- The point rule: finite, and times 256, cut toward zero, from −limit to limit.
 unfoldable pub toFixed : Float → Fix
 toFixed nan = Refused
 toFixed (inf s) = Refused
-toFixed (fin s m e) = withinLimit s (m * up e * 256 / down e) (not (eqb (m * up e * 256 % down e) 0))
+toFixed (fin s m e) = withinLimit s (m * up e * 256 / down e) (isCut (fin s m e))
 
 abbrev pub oneIf : Bool → ℕ
 oneIf b = cond b 1 0
+
+-- how many of a point's two parts are cut
+abbrev pub cutParts : Point → ℕ
+cutParts p = oneIf (isCut (p .x)) + oneIf (isCut (p .y))
 
 unfoldable pub spotFrom : Fix → Fix → Spot
 spotFrom (Fixed x a) (Fixed y b) = At (record { x = x; y = y }) (oneIf a + oneIf b)

@@ -10,7 +10,7 @@ use Rattle.path.specs.declared.Refusal.{Refusal}
 use Rattle.path.specs.declared.Judged.the-variants as judged
 use Rattle.path.specs.declared.Verdict.{Verdict}
 use Rattle.path.specs.declared.Verdict.the-variants.{Fine, Faulty}
-use Rattle.path.specs.Reading.{Read, path, refused, readList, judgedOf}
+use Rattle.path.specs.Reading.{Read, path, refused, cutsIn, readList, judgedOf}
 use Rattle.label.specs.declared.Label.{Label}
 use Rattle.label.specs.declared.Answer.the-variants.{Drawn, Refused}
 use Rattle.label.specs.Checks.{checkedOf}
@@ -23,10 +23,10 @@ answered e = ap (λ (o : Outcome). o .answer) e
 pub worded : {o o′ : Outcome} → o ≡ o′ → o .words ≡ o′ .words
 worded e = ap (λ (o : Outcome). o .words) e
 
-pub drawn-not-refused : {X : Type 0} {w : Refusal} {i r n : ℕ} → Drawn r n ≡ Refused w i → X
+pub drawn-not-refused : {X : Type 0} {w : Refusal} {i r n k : ℕ} → Drawn r n k ≡ Refused w i → X
 drawn-not-refused e = absurd (let z : _≡_ {A = ℕ} 0 1 = cc in omega arith)
 
-pub refused-not-drawn : {X : Type 0} {w : Refusal} {i r n : ℕ} → Refused w i ≡ Drawn r n → X
+pub refused-not-drawn : {X : Type 0} {w : Refusal} {i r n k : ℕ} → Refused w i ≡ Drawn r n k → X
 refused-not-drawn e = absurd (let z : _≡_ {A = ℕ} 0 1 = cc in omega arith)
 
 pub draw-is : (l : Label) (s mask words : List ℕ) → drawBy (ranOut l (length words)) l s mask words ≡ drawOf l s mask words
@@ -65,18 +65,18 @@ module _ (full : List Command → Option ℕ) (l : Label) (s mask words : List �
     pub drawn-from : (r : Read) → readList (l .transform) (l .offset) s ≡ r → drawnFrom full l mask words r ≡ drawBy full l s mask words
     drawn-from r e = by-read full l s mask words r e ∙ by-check full l s mask words Fine c
 
-    refuses : (r : Read) (w : Refusal) (i : ℕ) → judgedOf r ≡ judged.Refused w i → outcome (Refused w i) mask words ≡ drawnFrom full l mask words r
+    refuses : (r : Read) (w : Refusal) (i : ℕ) → judgedOf (l .transform) (l .offset) r ≡ judged.Refused w i → outcome (Refused w i) mask words ≡ drawnFrom full l mask words r
     unfolding judgedOf
     refuses (refused w′ i′) w i e = let p : w ≡ w′ = cc in let q : i ≡ i′ = cc in rw (p, q) (sym (by-refused full l mask words w′ i′))
     refuses (path cs) w i e = absurd (let z : _≡_ {A = ℕ} 0 1 = cc in omega arith)
 
-    pub faulty : (w : Refusal) (i : ℕ) → judgedOf (readList (l .transform) (l .offset) s) ≡ judged.Refused w i → outcome (Refused w i) mask words ≡ drawBy full l s mask words
+    pub faulty : (w : Refusal) (i : ℕ) → judgedOf (l .transform) (l .offset) (readList (l .transform) (l .offset) s) ≡ judged.Refused w i → outcome (Refused w i) mask words ≡ drawBy full l s mask words
     faulty w i e = refuses (readList (l .transform) (l .offset) s) w i e ∙ drawn-from (readList (l .transform) (l .offset) s) refl
 
-    accepts : (r : Read) (n : ℕ) (o : Outcome) → readList (l .transform) (l .offset) s ≡ r → judgedOf r ≡ judged.Records n → Inked full l n s mask words o → o ≡ drawnFrom full l mask words r
+    accepts : (r : Read) (n m : ℕ) (o : Outcome) → readList (l .transform) (l .offset) s ≡ r → judgedOf (l .transform) (l .offset) r ≡ judged.Records n m → Inked full l n m s mask words o → o ≡ drawnFrom full l mask words r
     unfolding judgedOf
-    accepts (path cs) n o a e k = let q : n ≡ length cs = cc in k .rule cs a q ∙ sym (by-path full l mask words cs)
-    accepts (refused w i) n o a e k = absurd (let z : _≡_ {A = ℕ} 0 1 = cc in omega arith)
+    accepts (path cs) n m o a e k = let q : n ≡ length cs = cc in let q′ : m ≡ cutsIn (l .transform) (l .offset) cs = cc in k .rule cs a q q′ ∙ sym (by-path full l mask words cs)
+    accepts (refused w i) n m o a e k = absurd (let z : _≡_ {A = ℕ} 0 1 = cc in omega arith)
 
-    pub drawn : (n : ℕ) (o : Outcome) → judgedOf (readList (l .transform) (l .offset) s) ≡ judged.Records n → Inked full l n s mask words o → o ≡ drawBy full l s mask words
-    drawn n o e k = accepts (readList (l .transform) (l .offset) s) n o refl e k ∙ drawn-from (readList (l .transform) (l .offset) s) refl
+    pub drawn : (n m : ℕ) (o : Outcome) → judgedOf (l .transform) (l .offset) (readList (l .transform) (l .offset) s) ≡ judged.Records n m → Inked full l n m s mask words o → o ≡ drawBy full l s mask words
+    drawn n m o e k = accepts (readList (l .transform) (l .offset) s) n m o refl e k ∙ drawn-from (readList (l .transform) (l .offset) s) refl

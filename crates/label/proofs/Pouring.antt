@@ -44,43 +44,43 @@ module _ (l : Label) (z : Sized l) where
       let few : i ≤ bytes = rw e at h in
       omega arith
 
+  -- the sizes that `sweep` asks
+  pub sweeps : (s mask ws ws′ : List ℕ) (n : ℕ) (k : Pool) → k ≡ Cells n → Poured l s ws ws′ k → Lent l (length mask) (length ws) → masks.Fits ws′ mask (rows l) n (l .width) (l .pitch)
+  sweeps s mask ws ws′ n k f p t =
+      let few : n ≤ poolOf l (length ws) = rw f at (p .within) in
+      let fits = pool-fits (rows l) (length ws) (t .heads) in
+      record {
+        fits = omega (arith, p .same);
+        few-rows = omega (arith, z .inside, z .low, z .ordered);
+        narrow = omega (arith, z .narrow);
+        pitched = z .pitched;
+        near = z .near;
+        lines = t .lines;
+      }
+
   -- ---- the outcome
-  module _ (records : ℕ) (s mask ws ws′ : List ℕ) where
+  module _ (records cut : ℕ) (s mask ws ws′ : List ℕ) where
     pub inked-full : (i : ℕ) (k : Pool) → k ≡ Full i → Poured l s ws ws′ k → (ws″ : List ℕ) → ws″ ≡ replicate (length ws′) 0
-        → Inked (ranOut l (length ws)) l records s mask ws (outcome (Refused refusal.Full i) mask ws″)
+        → Inked (ranOut l (length ws)) l records cut s mask ws (outcome (Refused refusal.Full i) mask ws″)
     unfolding inked
     inked-full i k f p ws″ e =
         record {
-          rule = λ cs a m.
+          rule = λ cs a m m′.
               let log = logOf l cs in
               let full : (poolOf l (length ws) < distinct log) × (i ≡ roomFor l (length ws) cs) = rw f at (p .stored cs a) in
               rw (lt-ltb _ _ (full .0), full .1, e, p .same);
         }
 
     pub inked-cells : (n : ℕ) (k : Pool) → k ≡ Cells n → Poured l s ws ws′ k → (mask′ : List ℕ) → masks.Swept ws′ mask mask′ (rows l) n (l .width) (l .fill) (l .up) (l .pitch)
-        → (ws″ : List ℕ) → ws″ ≡ replicate (length ws′) 0 → Inked (ranOut l (length ws)) l records s mask ws (outcome (Drawn records n) mask′ ws″)
+        → (ws″ : List ℕ) → ws″ ≡ replicate (length ws′) 0 → Inked (ranOut l (length ws)) l records cut s mask ws (outcome (Drawn records n cut) mask′ ws″)
     unfolding inked paintedOf
     inked-cells n k f p mask′ w ws″ e =
         record {
-          rule = λ cs a m.
+          rule = λ cs a m m′.
               let log = logOf l cs in
               let holds : Holds ws′ (rows l) (l .width) n log = rw f at (p .stored cs a) in
               let few : n ≤ poolOf l (length ws) = rw f at (p .within) in
               let count : n ≡ distinct log = holds .pool .counted in
               let no : distinct log ≤ poolOf l (length ws) = omega arith in
-              rw (le-ltb _ _ no, e, p .same, m, ← count, mask-is (z .pitched) w holds);
-        }
-
-    -- the sizes that `sweep` asks
-    pub sweeps : (n : ℕ) (k : Pool) → k ≡ Cells n → Poured l s ws ws′ k → Lent l (length mask) (length ws) → masks.Fits ws′ mask (rows l) n (l .width) (l .pitch)
-    sweeps n k f p t =
-        let few : n ≤ poolOf l (length ws) = rw f at (p .within) in
-        let fits = pool-fits (rows l) (length ws) (t .heads) in
-        record {
-          fits = omega (arith, p .same);
-          few-rows = omega (arith, z .inside, z .low, z .ordered);
-          narrow = omega (arith, z .narrow);
-          pitched = z .pitched;
-          near = z .near;
-          lines = t .lines;
+              rw (le-ltb _ _ no, e, p .same, m, m′, ← count, mask-is (z .pitched) w holds);
         }

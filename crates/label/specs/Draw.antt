@@ -15,7 +15,7 @@ use Rattle.path.specs.declared.Refusal.the-variants.{Full}
 use Rattle.path.specs.declared.Verdict.{Verdict}
 use Rattle.path.specs.declared.Verdict.the-variants.{Fine, Faulty}
 use Rattle.path.specs.Refusals.{numberOf}
-use Rattle.path.specs.Reading.{Read, refused, path, readList}
+use Rattle.path.specs.Reading.{Read, refused, path, cutsIn, readList}
 use Rattle.path.specs.Strokes.{strokesOf}
 use Rattle.path.specs.Storing.{storedBy, fitting}
 use Rattle.path.specs.Pouring as pouring
@@ -27,8 +27,8 @@ use Rattle.label.specs.Checks.{rows, checkedOf}
 
 -- the rules' number, index and counts of each answer
 abbrev pub numbersOf : Answer → Numbers
-numbersOf (Drawn records cells) = record { number = 0; index = 0; records = records; cells = cells }
-numbersOf (Refused why index) = record { number = numberOf why; index = index; records = 0; cells = 0 }
+numbersOf (Drawn records cells cut) = record { number = 0; index = 0; records = records; cells = cells; cut = cut }
+numbersOf (Refused why index) = record { number = numberOf why; index = index; records = 0; cells = 0; cut = 0 }
 
 -- the answer, and the mask and the workspace after it
 pub record Outcome : Type 0 where
@@ -75,11 +75,15 @@ thirteen many index = cond many (some index) none
 abbrev pub ranOut : Label → ℕ → List Command → Option ℕ
 ranOut l words cs = thirteen (tooMany l words cs) (roomFor l words cs)
 
--- 13 leaves the mask; else the numbers of records and of cells, and the mask painted
+-- what an accepted list answers: the numbers of its records, of the label's cells and of the coordinates that are cut
+abbrev pub drawnAs : Label → List Command → Answer
+drawnAs l cs = Drawn (length cs) (distinct (logOf l cs)) (cutsIn (l .transform) (l .offset) cs)
+
+-- 13 leaves the mask; else these numbers, and the mask painted
 unfoldable pub inked : Option ℕ → Label → List ℕ → List ℕ → List Command → Outcome
-unfolding distinct depositsOf strokesOf paintedOf
+unfolding distinct depositsOf strokesOf cutsIn paintedOf
 inked (some index) l mask words cs = outcome (Refused Full index) mask (wiped words)
-inked none l mask words cs = outcome (Drawn (length cs) (distinct (logOf l cs))) (paintedOf l (logOf l cs) mask) (wiped words)
+inked none l mask words cs = outcome (drawnAs l cs) (paintedOf l (logOf l cs) mask) (wiped words)
 
 -- a refusal by 1 to 12 or 18 changes neither mask nor words
 abbrev pub turnedAway : Refusal → ℕ → List ℕ → List ℕ → Outcome

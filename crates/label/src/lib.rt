@@ -32,7 +32,7 @@ pub struct Label {
 
 // What a drawing answers.
 pub enum Answer {
-    Drawn { records: u32, cells: u32 },
+    Drawn { records: u32, cells: u32, cut: u32 },
     Refused { why: Refusal, record: u32 },
 }
 
@@ -43,6 +43,7 @@ pub struct Numbers {
     pub index: u32,
     pub records: u32,
     pub cells: u32,
+    pub cut: u32,
 }
 
 const MOST_PIXELS: usize = 4096;
@@ -53,17 +54,23 @@ pub fn numbers_of(a: Answer) -> Numbers
     ensures { λ r. ⌜ r ≡ numbersOf a ⌝ }
 {
     match a {
-        Answer::Drawn { records, cells } => Numbers {
+        Answer::Drawn {
+            records,
+            cells,
+            cut,
+        } => Numbers {
             number: 0,
             index: 0,
             records,
             cells,
+            cut,
         },
         Answer::Refused { why, record } => Numbers {
             number: path::number_of(why),
             index: record,
             records: 0,
             cells: 0,
+            cut: 0,
         },
     }
 }
@@ -121,10 +128,10 @@ pub fn check(l: Label, list: usize, mask: usize, words: usize) -> Verdict
     }
 }
 
-// Draws an accepted list of so many records.
-fn ink(list: &[u8], l: Label, records: u32, mask: &mut [u8], words: &mut [u32]) -> Answer
+// Draws an accepted list of so many records and cut coordinates.
+fn ink(list: &[u8], l: Label, records: u32, cut: u32, mask: &mut [u8], words: &mut [u32]) -> Answer
     requires { ⌜ Sized l ⌝ ∗ ⌜ Lent l (length (now mask)) (length (now words)) ⌝ ∗ ⌜ length (now list) ≤ mostBytes ⌝ }
-    ensures { λ r. ⌜ Inked (ranOut l (length (now (words .entry)))) l records (now (list .entry)) (now (mask .entry)) (now (words .entry)) (outcome r (now (mask .exit)) (now (words .exit))) ⌝ }
+    ensures { λ r. ⌜ Inked (ranOut l (length (now (words .entry)))) l records cut (now (list .entry)) (now (mask .entry)) (now (words .entry)) (outcome r (now (mask .exit)) (now (words .exit))) ⌝ }
 {
     let rows = l.end - l.first;
     let fill = l.fill;
@@ -142,6 +149,7 @@ fn ink(list: &[u8], l: Label, records: u32, mask: &mut [u8], words: &mut [u32]) 
             Answer::Drawn {
                 records,
                 cells: n as u32,
+                cut,
             }
         }
     }
@@ -155,7 +163,7 @@ pub fn draw(list: &[u8], l: Label, mask: &mut [u8], words: &mut [u32]) -> Answer
         Verdict::Faulty(why) => Answer::Refused { why, record: 0 },
         Verdict::Fine => match path::judge(list, l.transform, l.offset) {
             Judged::Refused(why, record) => Answer::Refused { why, record },
-            Judged::Records(n) => ink(list, l, n, mask, words),
+            Judged::Records { count, cut } => ink(list, l, count, cut, mask, words),
         },
     }
 }
@@ -169,15 +177,10 @@ pub fn cells(list: &[u8], l: Label, mask: usize, words: &mut [u32]) -> Answer
         Verdict::Faulty(why) => Answer::Refused { why, record: 0 },
         Verdict::Fine => match path::judge(list, l.transform, l.offset) {
             Judged::Refused(why, record) => Answer::Refused { why, record },
-            Judged::Records(n) => match path::pour(
-                list,
-                l.transform,
-                l.offset,
-                l.width,
-                l.first,
-                l.end,
-                words,
-            ) {
+            Judged::Records {
+                count: records,
+                cut,
+            } => match path::pour(list, l.transform, l.offset, l.width, l.first, l.end, words) {
                 Pool::Full(i) => {
                     storage::wipe(words);
                     Answer::Refused {
@@ -186,8 +189,9 @@ pub fn cells(list: &[u8], l: Label, mask: usize, words: &mut [u32]) -> Answer
                     }
                 }
                 Pool::Cells(count) => Answer::Drawn {
-                    records: n,
+                    records,
                     cells: count as u32,
+                    cut,
                 },
             },
         },

@@ -11,9 +11,9 @@ use Rattle.geometry.specs.declared.Origin.{Origin}
 use Rattle.command.specs.declared.Command.{Command}
 use Rattle.placing.specs.declared.BoxNumbers.{BoxNumbers}
 use Rattle.placing.specs.declared.PlaceNumbers.{PlaceNumbers}
-use Rattle.paper.specs.Floats.{passes}
+use Rattle.paper.specs.Floats.{pointsIn, cutIn, passes}
 use Rattle.paper.specs.TurnedAway.{Read, path, faulty, readList}
-use Rattle.paper.specs.Placing.{pointsIn, boxFrom, origin, boxOf, boxed, bounds}
+use Rattle.paper.specs.Placing.{boxFrom, origin, boxOf, boxed, bounds}
 use Rattle.paper.specs.Placing.{around, unlaid, placementOf, placement}
 use Rattle.paper.proofs.Calls.{no-path, one-number, one-index, same-fault}
 
@@ -53,16 +53,16 @@ module _ (g : Origin) (t : Transform) (o : Point) (s : List ℕ) where
   of-fault n i e = place-is (faulty n i) e
 
   pub of-path : (c : Command) (cs : List Command) → readList t o s ≡ path (c ∷ cs)
-      → placement g t o s ≡ around g o (boxOf (pointsIn t (c ∷ cs)))
+      → placement g t o s ≡ around g o (boxOf (pointsIn t (c ∷ cs))) (cutIn t o (c ∷ cs))
   unfolding placementOf
   of-path c cs e = place-is (path (c ∷ cs)) e
 
   pub of-none : (b : Bool) → passes o ≡ b → readList t o s ≡ path []
-      → placement g t o s ≡ cond b (around g o (record { min = origin; max = origin })) (unlaid 12 0)
+      → placement g t o s ≡ cond b (around g o (record { min = origin; max = origin }) 0) (unlaid 12 0)
   unfolding placementOf boxOf boxFrom
   of-none b h e =
       place-is (path []) e
-      ∙ ap (λ (x : Bool). cond x (around g o (record { min = origin; max = origin })) (unlaid 12 0)) h
+      ∙ ap (λ (x : Bool). cond x (around g o (record { min = origin; max = origin }) 0) (unlaid 12 0)) h
 
   abbrev Wrong : ℕ → ℕ → Type 0
   Wrong n i = (readList t o s ≡ faulty n i) ⊎ ((readList t o s ≡ path []) × (passes o ≡ false) × (n ≡ 12) × (i ≡ 0))

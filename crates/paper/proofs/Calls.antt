@@ -11,6 +11,7 @@ use lib.ListN.{length, getD, replicate, length-replicate}
 use Rattle.command.specs.declared.Command.{Command}
 use Rattle.label.specs.declared.Label.{Label}
 use Rattle.label.specs.declared.Numbers.{Numbers}
+use Rattle.paper.specs.Floats.{cutIn}
 use Rattle.paper.specs.TurnedAway.{mostPixels, sizeFault, Read, path, faulty, readList}
 use Rattle.paper.specs.Cells.{cellsOf, distinct}
 use Rattle.paper.specs.Bytes.{painted}
@@ -64,7 +65,7 @@ module _ (bands : List Label) (l : Label) (s mask words : List ℕ) where
   abbrev by-test : List Command → Bool → Outcome
   by-test cs t =
       let full : Option ℕ = elim t [ true ↦ some (firstOf (length words) cs bands) | false ↦ none ] in
-      inked full l (length cs) (cellsOf l cs) mask words
+      inked full l cs mask words
 
   pub by-full : (cs : List Command) → size ≡ 0 → read ≡ path cs → oneFull (length words) cs bands ≡ true
       → out ≡ refused 13 (firstOf (length words) cs bands) mask (wiped words)
@@ -72,7 +73,7 @@ module _ (bands : List Label) (l : Label) (s mask words : List ℕ) where
   by-full cs e g t = by-read (path cs) e g ∙ ap (by-test cs) t
 
   pub by-path : (cs : List Command) → size ≡ 0 → read ≡ path cs → oneFull (length words) cs bands ≡ false
-      → out ≡ accepted (length cs) (distinct (cellsOf l cs)) (painted l (cellsOf l cs) 0 mask) (wiped words)
+      → out ≡ accepted (length cs) (distinct (cellsOf l cs)) (cutIn (l .transform) (l .offset) cs) (painted l (cellsOf l cs) 0 mask) (wiped words)
   unfolding drawRead inked
   by-path cs e g t = by-read (path cs) e g ∙ ap (by-test cs) t
 
@@ -95,7 +96,7 @@ module _ (bands : List Label) (l : Label) (s mask words : List ℕ) where
           ranOut = λ cs i p. absurd (omega arith);
           accepted = (λ p. absurd (omega arith), λ q. absurd (omega (arith, q .1)));
           counts = λ cs p q. absurd (omega arith);
-          noCounts = λ p. (refl, refl);
+          noCounts = λ p. (refl, refl, refl);
           noIndex = λ p. refl;
           maskKept = λ p. refl;
           wordsKept = λ p q. refl;
@@ -115,7 +116,7 @@ module _ (bands : List Label) (l : Label) (s mask words : List ℕ) where
           ranOut = λ cs j p. absurd (other p);
           accepted = (λ p. absurd (omega arith), λ q. no-path (sym (q .2) ∙ g));
           counts = λ cs p q. absurd (omega arith);
-          noCounts = λ p. (refl, refl);
+          noCounts = λ p. (refl, refl, refl);
           noIndex = h .none;
           maskKept = λ p. refl;
           wordsKept = λ p q. refl;
@@ -141,7 +142,7 @@ module _ (bands : List Label) (l : Label) (s mask words : List ℕ) where
             (λ a. same .0 (own .0 a), λ b. own .1 (same .1 b));
         accepted = (λ p. absurd (omega arith), λ q. absurd (q .3 (rw (one-path (sym (q .2) ∙ g)) (asked cs .0 t))));
         counts = λ cs p q. absurd (omega arith);
-        noCounts = λ p. (refl, refl);
+        noCounts = λ p. (refl, refl, refl);
         noIndex = λ p. absurd (omega arith);
         maskKept = λ p. refl;
         wordsKept = λ p q. absurd (q refl);
@@ -152,7 +153,7 @@ module _ (bands : List Label) (l : Label) (s mask words : List ℕ) where
       not-full t h = let u = asked cs .1 h in let z : _≡_ {A = ℕ} 0 1 = cc in omega arith
 
       of-path : oneFull (length words) cs bands ≡ false → (after : List ℕ)
-          → Good (accepted (length cs) (distinct (cellsOf l cs)) after (wiped words))
+          → Good (accepted (length cs) (distinct (cellsOf l cs)) (cutIn (l .transform) (l .offset) cs) after (wiped words))
       of-path t after = record {
         answers = inl (omega arith);
         sizes = λ m a b. (λ p. absurd (omega arith), λ q. absurd (omega arith));
@@ -162,7 +163,7 @@ module _ (bands : List Label) (l : Label) (s mask words : List ℕ) where
         accepted = (λ p. (cs, e, g, not-full t), λ q. refl);
         counts = λ cs′ p q.
             let same = one-path (sym g ∙ q) in
-            (ap length same, ap (λ (z : List Command). distinct (cellsOf l z)) same);
+            (ap length same, ap (λ (z : List Command). distinct (cellsOf l z)) same, ap (cutIn (l .transform) (l .offset)) same);
         noCounts = λ p. absurd (omega arith);
         noIndex = λ p. refl;
         maskKept = λ p. absurd (omega arith);

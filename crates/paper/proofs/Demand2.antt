@@ -14,6 +14,8 @@ use Rattle.paper.specs.Bytes.{painted}
 use Rattle.paper.specs.Drawing.{oneFull, firstOf, drawIn, draw, bandsFrom, drawInBands}
 use Rattle.paper.specs.Demands.{number, Pictured, Demand2}
 use Rattle.paper.proofs.Pictures.{sound, painted-long, inside, pixel-at, other-at}
+use Rattle.paper.proofs.Reading.{path-passed}
+use Rattle.paper.proofs.Cuts.{uncut}
 use Rattle.paper.proofs.Calls.{by-full, by-path, answered}
 use Rattle.paper.proofs.Boxes.{box-is, of-path, of-none}
 
@@ -67,4 +69,5 @@ demand2 = record {
   boxes = λ t s cs e. box-is t s (path cs) e;
   places = of-path;
   nowhere = λ g t o s e h. of-none g t o s true h e;
+  uncut = λ t o s cs e. uncut t o cs (path-passed t o s cs e);
 }

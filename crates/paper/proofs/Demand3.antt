@@ -7,6 +7,7 @@ use native.Mathlib.Omega.{arith}
 use borrow.Author.Tests.{eq-eqb}
 use lib.ListN.{length, getD}
 use Rattle.label.specs.declared.Label.{Label}
+use Rattle.label.specs.declared.Answer.{Answer}
 use Rattle.label.specs.declared.Answer.the-variants.{Drawn, Refused}
 use Rattle.label.specs.declared.Numbers.{Numbers}
 use Rattle.label.specs.Draw as label
@@ -25,13 +26,16 @@ use Rattle.paper.proofs.Draws.{told, draws, draws-in-bands}
 use Rattle.paper.proofs.Back.{refusalOf, answerOf, drawn-back}
 
 -- ---- a number 0 is an answer Drawn
-drawn-answer : (n : Numbers) → n .number ≡ 0 → answerOf n ≡ Drawn (n .records) (n .cells)
+abbrev drawnBy : Numbers → Answer
+drawnBy n = Drawn (n .records) (n .cells) (n .cut)
+
+drawn-answer : (n : Numbers) → n .number ≡ 0 → answerOf n ≡ drawnBy n
 drawn-answer n e =
-    ap (λ (b : Bool). cond b (Drawn (n .records) (n .cells)) (Refused (refusalOf (n .number)) (n .index)))
+    ap (λ (b : Bool). cond b (drawnBy n) (Refused (refusalOf (n .number)) (n .index)))
     (eq-eqb (n .number) 0 e)
 
 drawn-of : (l : Label) (s mask words : List ℕ) → number (draw l s mask words) ≡ 0
-    → drawOf l s mask words .answer ≡ Drawn (draw l s mask words .answer .records) (draw l s mask words .answer .cells)
+    → drawOf l s mask words .answer ≡ drawnBy (draw l s mask words .answer)
 drawn-of l s mask words e =
     ap (λ (o : label.Outcome). o .answer) (drawn-back l s mask words) ∙ drawn-answer (draw l s mask words .answer) e
 
@@ -67,7 +71,7 @@ module _ (l : Label) (s mask words : List ℕ) (e : number (draw (whole l) s mas
   abbrev all : Outcome
   all = draw (whole l) s mask words
 
-  was : drawOf (whole l) s mask words .answer ≡ Drawn (all .answer .records) (all .answer .cells)
+  was : drawOf (whole l) s mask words .answer ≡ drawnBy (all .answer)
   was = drawn-of (whole l) s mask words e
 
   fine : (first end : ℕ) (mask′ : List ℕ) → LongEnough (band l first end) mask′ → claims.Roomy (band l first end) mask′
@@ -82,12 +86,13 @@ module _ (l : Label) (s mask words : List ℕ) (e : number (draw (whole l) s mas
   agrees first end mask′ words′ a b c d =
       let own = band l first end in
       let roomy = fine first end mask′ c in
-      let law = claimed.bands l s mask words (all .answer .records) (all .answer .cells) was (l .up) (l .pitch) in
+      let law = claimed.bands l s mask words (all .answer .records) (all .answer .cells) (all .answer .cut) was (l .up) (l .pitch) in
       let h = law first end a b mask′ words′ roomy d in
       let is = answer-of own s mask′ words′ ∙ ap numbersOf (h .accepted) in
       record {
         accepted = ap (λ (n : Numbers). n .number) is;
         records = ap (λ (n : Numbers). n .records) is;
+        cut = ap (λ (n : Numbers). n .cut) is;
         pixels = λ y x p.
             byte-is own s mask′ words′ y x p
             ∙ h .pixels y x (p .0) (p .1) (p .2)
@@ -117,7 +122,7 @@ module _ (l : Label) (s mask words : List ℕ) (e : number (draw (whole l) s mas
       → cellsOver l s 0 ps ≡ draw (whole l) s mask words .answer .cells
   add-up ps h =
       counts 0 ps
-      ∙ claimed.cells-add-up l s mask words (all .answer .records) (all .answer .cells) was (pieces ps) (cuts 0 ps h)
+      ∙ claimed.cells-add-up l s mask words (all .answer .records) (all .answer .cells) (all .answer .cut) was (pieces ps) (cuts 0 ps h)
 
 -- ---- at once and in bands
 in-bands : (step : ℕ) (l : Label) (s mask words : List ℕ) → number (draw l s mask words) ≡ 0
@@ -125,7 +130,7 @@ in-bands : (step : ℕ) (l : Label) (s mask words : List ℕ) → number (draw l
 in-bands step l s mask words e =
     let o = draw l s mask words in
     draws-in-bands step l s mask words
-    ∙ ap told (at-once step l s mask words .same (o .answer .records) (o .answer .cells) (drawn-of l s mask words e))
+    ∙ ap told (at-once step l s mask words .same (o .answer .records) (o .answer .cells) (o .answer .cut) (drawn-of l s mask words e))
     ∙ sym (draws l s mask words)
 
 pub demand3 : Demand3

@@ -31,6 +31,7 @@ use Rattle.paper.specs.Bytes.{painted}
 use Rattle.paper.specs.Drawing.{Outcome, left, refused, pool, full, oneFull, recordOf, firstOf, thirteen, inked, drawRead, drawIn, draw, band, bandsFrom, drawInBands}
 use Rattle.paper.proofs.Places.{distinct-held}
 use Rattle.paper.proofs.Bytes.{painted-held}
+use Rattle.paper.proofs.Cuts.{cut-held}
 use Rattle.paper.proofs.Marks.{AllPassed, cells-held, cells-in}
 use Rattle.paper.proofs.Room.{picked, record-held}
 use Rattle.paper.proofs.Reading.{numbered, list-held, PassedRead, list-passed}
@@ -68,15 +69,15 @@ Asked bands asked l words =
 module _ (bands : List Label) (asked : List Command → Option ℕ) (l : Label) (mask words : List ℕ) (same : Asked bands asked l (length words)) where
   -- ---- an accepted list
   inked-by : (t : Option ℕ) (cs : List Command) → l .width ≤ mostPixels → AllPassed (l .transform) (l .offset) cs
-      → inked t l (length cs) (cellsOf l cs) mask words ≡ told (label.inked t l mask words cs)
+      → inked t l cs mask words ≡ told (label.inked t l mask words cs)
   unfolding inked label.inked
   inked-by (some i) cs w h = refl
-  inked-by none cs w h = rw (count-held l cs w h, paint-held l mask cs w h)
+  inked-by none cs w h = rw (count-held l cs w h, cut-held (l .transform) (l .offset) cs, paint-held l mask cs w h)
 
   inked-held : (cs : List Command) → l .width ≤ mostPixels → AllPassed (l .transform) (l .offset) cs
-      → inked (thirteen (length words) cs bands) l (length cs) (cellsOf l cs) mask words ≡ told (label.inked (asked cs) l mask words cs)
+      → inked (thirteen (length words) cs bands) l cs mask words ≡ told (label.inked (asked cs) l mask words cs)
   inked-held cs w h =
-      ap (λ (t : Option ℕ). inked t l (length cs) (cellsOf l cs) mask words) (same cs w h) ∙ inked-by (asked cs) cs w h
+      ap (λ (t : Option ℕ). inked t l cs mask words) (same cs w h) ∙ inked-by (asked cs) cs w h
 
   read-drawn : (r : reading.Read) → l .width ≤ mostPixels → PassedRead (l .transform) (l .offset) (numbered r)
       → drawRead bands l (numbered r) mask words ≡ told (drawnFrom asked l mask words r)

@@ -10,17 +10,18 @@ use mathlib.Core.Logic.{_↔_, _⊎_}
 use mathlib.Core.Option.{Option, none, some}
 use lib.ListN.{length, getD, take}
 use lib.IntN.{pos}
+use lib.Ieee.{Float, nan, inf, fin, up, down}
 use Rattle.geometry.specs.declared.Point.{Point}
 use Rattle.geometry.specs.declared.Transform.{Transform}
 use Rattle.geometry.specs.declared.Origin.{Origin}
 use Rattle.command.specs.declared.Command.{Command}
 use Rattle.label.specs.declared.Label.{Label}
-use Rattle.paper.specs.Floats.{passes}
+use Rattle.paper.specs.Floats.{shifted, pointsIn, cutIn, passes}
 use Rattle.paper.specs.TurnedAway.{rows, mostPixels, sizeFault, afterClose, draws, path, faulty, readList}
 use Rattle.paper.specs.Cells.{cellsOf, cellsBy, distinct}
 use Rattle.paper.specs.Bytes.{value, byteOf}
 use Rattle.paper.specs.Drawing.{Outcome, pool, wiped, draw, band, drawInBands}
-use Rattle.paper.specs.Placing.{pointsIn, origin, boxOf, boxed, bounds, around, unlaid, placement}
+use Rattle.paper.specs.Placing.{origin, boxOf, boxed, bounds, around, unlaid, placement}
 
 abbrev pub Drawing : Type 0  -- a label, a list, a mask and a workspace, and what is left of them
 Drawing = Label → List ℕ → List ℕ → List ℕ → Outcome
@@ -60,10 +61,11 @@ pub record Answered (Full : List Command → Type 0) (Out : List Command → ℕ
   pub accepted : number o ≡ 0
       ↔ (cs : List Command) × (sizeFault l (length mask) (length words) ≡ 0)
       × (readList (l .transform) (l .offset) s ≡ path cs) × ¬ Full cs
-  -- the records, and the distinct places that were stored into
+  -- the records, the distinct places that were stored into, and the coordinates that were cut
   pub counts : (cs : List Command) → number o ≡ 0 → readList (l .transform) (l .offset) s ≡ path cs
       → (o .answer .records ≡ length cs) × (o .answer .cells ≡ distinct (cellsOf l cs))
-  pub noCounts : 0 < number o → (o .answer .records ≡ 0) × (o .answer .cells ≡ 0)
+      × (o .answer .cut ≡ cutIn (l .transform) (l .offset) cs)
+  pub noCounts : 0 < number o → (o .answer .records ≡ 0) × (o .answer .cells ≡ 0) × (o .answer .cut ≡ 0)
   -- 8 to 13 and 18 alone are the fault of a record
   pub noIndex : number o < 8 → o .answer .index ≡ 0
   pub maskKept : 0 < number o → o .mask ≡ mask
@@ -157,6 +159,12 @@ pub record Pictured (l : Label) (cs : List Command) (mask after : List ℕ) : Ty
   pub others : (i : ℕ) → i < length mask → ((y x : ℕ) → In l y x → ¬ (place l y x ≡ i))
       → getD after i 0 ≡ getD mask i 0
 
+-- 256 times the float is a whole number
+unfoldable pub OnGrid : Float → Type 0
+OnGrid nan = ⊥
+OnGrid (inf sign) = ⊥
+OnGrid (fin sign m e) = (n : ℕ) × (m * up e * 256 ≡ n * down e)
+
 pub record Demand2 : Type 0 where
   pub atOnce : (l : Label) (s mask words : List ℕ) (cs : List Command)
       → number (draw l s mask words) ≡ 0 → readList (l .transform) (l .offset) s ≡ path cs
@@ -169,12 +177,19 @@ pub record Demand2 : Type 0 where
       → bounds t s ≡ boxed 0 0 (boxOf (pointsIn t cs))
   -- a placement is laid around it, and for an empty list around (0,0)
   pub places : (g : Origin) (t : Transform) (o : Point) (s : List ℕ) (c : Command) (cs : List Command)
-      → readList t o s ≡ path (c ∷ cs) → placement g t o s ≡ around g o (boxOf (pointsIn t (c ∷ cs)))
+      → readList t o s ≡ path (c ∷ cs)
+      → placement g t o s ≡ around g o (boxOf (pointsIn t (c ∷ cs))) (cutIn t o (c ∷ cs))
   pub nowhere : (g : Origin) (t : Transform) (o : Point) (s : List ℕ) → readList t o s ≡ path [] → passes o ≡ true
-      → placement g t o s ≡ around g o (record { min = origin; max = origin })
+      → placement g t o s ≡ around g o (record { min = origin; max = origin }) 0
+  -- no coordinate of a path is cut exactly where each of them, times 256, is whole
+  pub uncut : (t : Transform) (o : Point) (s : List ℕ) (cs : List Command) → readList t o s ≡ path cs
+      → cutIn t o cs ≡ 0
+      ↔ ((i : ℕ) → i < length (pointsIn t cs)
+      → let p = shifted o (getD (pointsIn t cs) i origin) in OnGrid (p .x) × OnGrid (p .y))
 
--- ---- DEMAND 3: if a whole label is accepted, so is each band of its rows by itself, and a pixel has one byte in both;
--- the cells of bands that make up the label are together as many as the label's
+-- ---- DEMAND 3: if a whole label is accepted, so is each band of its rows by itself, and a pixel has one byte in both,
+-- as has a list one count of cut coordinates; the cells of bands that make up the label are together as many as the
+-- label's
 
 abbrev pub whole : Label → Label  -- all rows of a label
 whole l = band l 0 (l .height)
@@ -186,6 +201,7 @@ LongEnough l mask = 0 < rows l → l .pitch * (rows l - 1) + l .width ≤ length
 pub record Agrees (l : Label) (first end : ℕ) (alone all : Outcome) : Type 0 where
   pub accepted : number alone ≡ 0
   pub records : alone .answer .records ≡ all .answer .records
+  pub cut : alone .answer .cut ≡ all .answer .cut
   pub pixels : (y x : ℕ) → In (band l first end) y x
       → getD (alone .mask) (place (band l first end) y x) 0 ≡ getD (all .mask) (place (whole l) y x) 0
 

@@ -9,6 +9,7 @@ use Rattle.command.specs.declared.Command.{Command}
 use Rattle.label.specs.declared.Label.{Label}
 use Rattle.label.specs.declared.Numbers.{Numbers}
 use Rattle.paper.specs.Steps.{mostBands}
+use Rattle.paper.specs.Floats.{cutIn}
 use Rattle.paper.specs.TurnedAway.{rows, sizeFault, Read, path, faulty, readList}
 use Rattle.paper.specs.Cells.{Pair, cellsOf, cellsBy, distinct}
 use Rattle.paper.specs.Bytes.{painted}
@@ -21,14 +22,21 @@ pub record Outcome : Type 0 where  -- what a call leaves: its answer, and mask a
 abbrev pub left : Numbers → List ℕ → List ℕ → Outcome
 left answer mask words = record { answer = answer; mask = mask; words = words }
 
-abbrev pub numbers : ℕ → ℕ → ℕ → ℕ → Numbers
-numbers number index records cells = record { number = number; index = index; records = records; cells = cells }
+abbrev pub numbers : ℕ → ℕ → ℕ → ℕ → ℕ → Numbers
+numbers number index records cells cut = record {
+  number = number;
+  index = index;
+  records = records;
+  cells = cells;
+  cut = cut;
+}
 
 abbrev pub refused : ℕ → ℕ → List ℕ → List ℕ → Outcome  -- number and index, and no counts
-refused number index mask words = left (numbers number index 0 0) mask words
+refused number index mask words = left (numbers number index 0 0 0) mask words
 
-abbrev pub accepted : ℕ → ℕ → List ℕ → List ℕ → Outcome  -- 0, and how many records and cells there are
-accepted records cells mask words = left (numbers 0 0 records cells) mask words
+-- 0, and how many records, cells and cut coordinates there are
+abbrev pub accepted : ℕ → ℕ → ℕ → List ℕ → List ℕ → Outcome
+accepted records cells cut mask words = left (numbers 0 0 records cells cut) mask words
 
 abbrev pub pool : Label → ℕ → ℕ  -- how many places a workspace of so many words has: a word a row, then four a place
 pool l words = min 16384 ((words - rows l) / 4)
@@ -61,16 +69,16 @@ abbrev pub thirteen : ℕ → List Command → List Label → Option ℕ  -- 13 
 thirteen words cs bands = elim (oneFull words cs bands) [ true ↦ some (firstOf words cs bands) | false ↦ none ]
 
 -- the path's cells painted, or 13, its record and the mask as it was; the words are wiped either way
-unfoldable pub inked : Option ℕ → Label → ℕ → List Pair → List ℕ → List ℕ → Outcome
-inked (some index) l records cells mask words = refused 13 index mask (wiped words)
-inked none l records cells mask words =
-    accepted records (distinct cells) (painted l cells 0 mask) (wiped words)
+unfoldable pub inked : Option ℕ → Label → List Command → List ℕ → List ℕ → Outcome
+inked (some index) l cs mask words = refused 13 index mask (wiped words)
+inked none l cs mask words =
+    let cut = cutIn (l .transform) (l .offset) cs in
+    accepted (length cs) (distinct (cellsOf l cs)) cut (painted l (cellsOf l cs) 0 mask) (wiped words)
 
 -- a list as it was read: every refusal but 13 leaves mask and words as they were
 unfoldable pub drawRead : List Label → Label → Read → List ℕ → List ℕ → Outcome
 drawRead bands l (faulty number index) mask words = refused number index mask words
-drawRead bands l (path cs) mask words =
-    inked (thirteen (length words) cs bands) l (length cs) (cellsOf l cs) mask words
+drawRead bands l (path cs) mask words = inked (thirteen (length words) cs bands) l cs mask words
 
 -- the label l drawn in these bands: 1 to 5, then 6 to 12 and 18, and only then 13
 unfoldable pub drawIn : List Label → Label → List ℕ → List ℕ → List ℕ → Outcome

@@ -1,13 +1,16 @@
 -- docs/RULES.md, "From floats to 24.8 numbers": points, the point rule, cells, transforms.
-use Prim.Native.Nat.{ℕ, _*_ as _*ℕ_, _/_ as _/ℕ_}
-use mathlib.Core.Bool.{Bool, cond, _&&_}
-use lib.Dec.{leb}
+use Prim.Native.Nat.{ℕ, _+_ as _+ℕ_, _*_ as _*ℕ_, _/_ as _/ℕ_, _%_ as _%ℕ_}
+use mathlib.Core.Bool.{Bool, false, not, cond, _&&_}
+use mathlib.Core.List.{List, [], _∷_, _++_, map}
+use lib.Dec.{leb, eqb}
 use lib.IntN.{ℤ, pos, negℤ, natAbs}
 use lib.Ieee.{Float, nan, inf, fin, binary32, ofBits, add, mul, up, down}
 use lib.Ieee.Scale.{finite}
 use Rattle.geometry.specs.declared.Point.{Point}
 use Rattle.geometry.specs.declared.Transform.{Transform}
+use Rattle.command.specs.declared.Command.{Command}
 use Rattle.paper.specs.Numbers.{_-_, _·_, _/_, +0}
+use Rattle.paper.specs.PathList.{pointsOf}
 
 -- a sum and a product of binary32 floats, each rounded once, to the nearest, ties to even
 infixl 65 _⊕_
@@ -30,11 +33,27 @@ movedVector t p = record { x = p .x ⊗ t .xx ⊕ p .y ⊗ t .yx; y = p .x ⊗ t
 abbrev pub shifted : Point → Point → Point  -- a point with the offset added
 shifted o p = record { x = p .x ⊕ o .x; y = p .y ⊕ o .y }
 
+unfoldable pub pointsIn : Transform → List Command → List Point  -- every transformed point, control points too
+pointsIn t [] = []
+pointsIn t (c ∷ cs) = map (moved t) (pointsOf c) ++ pointsIn t cs
+
 -- 256 times a float, cut toward zero. A finite float is m · 2^e, or −m · 2^e if its sign is set; 2^e is up e / down e
 unfoldable pub fixedOf : Float → ℤ
 fixedOf nan = +0
 fixedOf (inf sign) = +0
 fixedOf (fin sign m e) = let n = pos (m *ℕ up e *ℕ 256 /ℕ down e) in cond sign (negℤ n) n
+
+abbrev pub isCut : Float → Bool  -- something is cut off: 256 times the float is not whole
+isCut nan = false
+isCut (inf sign) = false
+isCut (fin sign m e) = not (eqb (m *ℕ up e *ℕ 256 %ℕ down e) 0)
+
+unfoldable pub cutOf : List Point → ℕ  -- how many coordinates of these points are cut, x and y apart
+cutOf [] = 0
+cutOf (p ∷ ps) = cond (isCut (p .x)) 1 0 +ℕ cond (isCut (p .y)) 1 0 +ℕ cutOf ps
+
+abbrev pub cutIn : Transform → Point → List Command → ℕ  -- of all points of a path, where the offset is added
+cutIn t o cs = cutOf (map (shifted o) (pointsIn t cs))
 
 pub record Spot : Type 0 where  -- a point in 24.8 numbers: whole numbers of 256ths
   pub x : ℤ

@@ -1,7 +1,7 @@
 -- docs/RULES.md, "Bounds and placement".
 use Prim.Native.Nat.{ℕ, _*_ as _*ℕ_, _%_ as _%ℕ_}
 use mathlib.Core.Bool.{Bool, true, cond}
-use mathlib.Core.List.{List, [], _∷_, _++_, map}
+use mathlib.Core.List.{List, [], _∷_}
 use lib.Dec.{eqb}
 use lib.IntN.{ℤ, pos, negsuc, negℤ}
 use lib.Ieee.{Float, nan, inf, fin, binary32, up, down, lt, neg, ofInt}
@@ -14,14 +14,8 @@ use Rattle.command.specs.declared.Command.{Command}
 use Rattle.placing.specs.declared.BoxNumbers.{BoxNumbers}
 use Rattle.placing.specs.declared.PlaceNumbers.{PlaceNumbers}
 use Rattle.paper.specs.Numbers.{+0, _+_, _-_, _/_}
-use Rattle.paper.specs.Floats.{moved, shifted, passes, zero}
-use Rattle.paper.specs.PathList.{pointsOf}
+use Rattle.paper.specs.Floats.{shifted, pointsIn, cutIn, passes, zero}
 use Rattle.paper.specs.TurnedAway.{Read, path, faulty, readList}
-
--- every transformed point, control points too
-unfoldable pub pointsIn : Transform → List Command → List Point
-pointsIn t [] = []
-pointsIn t (c ∷ cs) = map (moved t) (pointsOf c) ++ pointsIn t cs
 
 abbrev pub lower : Float → Float → Float  -- of a tie, zeros of either sign included, the first stays
 lower a b = cond (lt b a) b a
@@ -87,8 +81,9 @@ abbrev pub raised : Origin → ℤ → ℕ → ℤ  -- the top: for a bottom-lef
 raised TopLeft y h = y
 raised BottomLeft y h = y + pos h
 
-abbrev pub laid : Origin → Point → Point → PlaceNumbers  -- for the minimum a and the maximum b
-laid g a b = record {
+-- for the minimum a, the maximum b and so many cut coordinates
+abbrev pub laid : Origin → Point → Point → ℕ → PlaceNumbers
+laid g a b cut = record {
   number = 0;
   index = 0;
   «offset_x» = negated (a .x);
@@ -97,6 +92,7 @@ laid g a b = record {
   top = raised g (floor (a .y)) (extent (a .y) (b .y));
   width = extent (a .x) (b .x);
   height = extent (a .y) (b .y);
+  cut = cut;
 }
 
 abbrev pub unlaid : ℕ → ℕ → PlaceNumbers  -- refused: all but number and index is 0
@@ -109,16 +105,17 @@ unlaid n i = record {
   top = +0;
   width = 0;
   height = 0;
+  cut = 0;
 }
 
-abbrev pub around : Origin → Point → Bounds → PlaceNumbers  -- the offset is added to the box
-around g o b = laid g (shifted o (b .min)) (shifted o (b .max))
+abbrev pub around : Origin → Point → Bounds → ℕ → PlaceNumbers  -- the offset is added to the box
+around g o b cut = laid g (shifted o (b .min)) (shifted o (b .max)) cut
 
 -- 6 to 12 and 18 for the list with its offset; of an empty list the offset alone must pass the point rule, or it is 12
 unfoldable pub placementOf : Origin → Transform → Point → Read → PlaceNumbers
 placementOf g t o (faulty number index) = unlaid number index
-placementOf g t o (path []) = cond (passes o) (around g o (boxOf [])) (unlaid 12 0)
-placementOf g t o (path (c ∷ cs)) = around g o (boxOf (pointsIn t (c ∷ cs)))
+placementOf g t o (path []) = cond (passes o) (around g o (boxOf []) 0) (unlaid 12 0)
+placementOf g t o (path (c ∷ cs)) = around g o (boxOf (pointsIn t (c ∷ cs))) (cutIn t o (c ∷ cs))
 
 unfoldable pub placement : Origin → Transform → Point → List ℕ → PlaceNumbers
 placement g t o s = placementOf g t o (readList t o s)

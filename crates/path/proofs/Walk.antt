@@ -1,6 +1,6 @@
 -- The loop over a list's records keeps what is left to read.
-use Prim.Native.Nat.{ℕ, zero, suc, _+_, _-_, _≤_, _<_}
-use mathlib.Core.Path.{_≡_, refl, sym, ap, _∙_}
+use Prim.Native.Nat.{ℕ, zero, suc, _+_, _-_, _*_, _≤_, _<_}
+use mathlib.Core.Path.{_≡_, refl, sym, ap, ap₂, _∙_}
 use mathlib.Core.Bool.{Bool, false}
 use mathlib.Core.List.{List, [], _∷_}
 use mathlib.Core.Option.{Option, none, some}
@@ -9,7 +9,7 @@ use lib.ListN.{length}
 use Rattle.geometry.specs.declared.Point.{Point}
 use Rattle.geometry.specs.declared.Transform.{Transform}
 use Rattle.command.specs.declared.Command.{Command}
-use Rattle.command.specs.Commands.{isClose}
+use Rattle.command.specs.Commands.{isClose, pointsOf}
 use Rattle.list.specs.declared.Reason.{Reason}
 use Rattle.list.specs.declared.Step.the-variants as step
 use Rattle.list.specs.Records.{stepAt}
@@ -19,8 +19,10 @@ use Rattle.path.specs.declared.Judged.{Judged}
 use Rattle.path.specs.declared.Judged.the-variants.{Records, Refused}
 use Rattle.path.specs.declared.Verdict.{Verdict}
 use Rattle.path.specs.declared.Verdict.the-variants.{Fine, Faulty}
+use Rattle.path.specs.declared.Ruling.the-variants as ruling
 use Rattle.path.specs.Refusals.{refusalOf}
-use Rattle.path.specs.Reading.{Read, refused, path, before, judged, afterClose, verdictOf, readStep, readFrom, readList, judgedOf}
+use Rattle.path.specs.Reading.{Read, refused, path, before, judged, cutsAt, cutsIn, afterClose, verdictOf, ruled, readStep, readFrom, readList, judgedOf}
+use Rattle.path.proofs.Points.{few-cuts}
 
 -- ---- a list that was read: its commands are its own, and it was not refused
 pub same-commands : {xs ys : List Command} → path xs ≡ path ys → xs ≡ ys
@@ -29,19 +31,30 @@ same-commands p = cc
 pub refused-not-path : {w : Refusal} {i : ℕ} {cs : List Command} → refused w i ≡ path cs → ⊥
 refused-not-path p = let z : _≡_ {A = ℕ} 0 1 = cc in omega arith
 
--- ---- so many records, and those that are still read
-abbrev tallied : ℕ → Read → Judged
-tallied n (path cs) = Records (n + length cs)
-tallied n (refused w i) = Refused w i
+-- ---- what a ruling says of the verdict
+ruled-fine : (v : Verdict) (n m : ℕ) → ruling.Cuts m ≡ ruled v n → (v ≡ Fine) × (m ≡ n)
+ruled-fine Fine n m e = (refl, cc)
+ruled-fine (Faulty w) n m e = absurd (let z : _≡_ {A = ℕ} 0 1 = cc in omega arith)
 
-tallied-none : (r : Read) → tallied 0 r ≡ judgedOf r
-unfolding judgedOf
-tallied-none (path cs) = ap Records (omega arith)
-tallied-none (refused w i) = refl
+ruled-faulty : (v : Verdict) (n : ℕ) (w : Refusal) → ruling.Faulty w ≡ ruled v n → v ≡ Faulty w
+ruled-faulty Fine n w e = absurd (let z : _≡_ {A = ℕ} 0 1 = cc in omega arith)
+ruled-faulty (Faulty w′) n w e = cc
 
-tallied-one : (n : ℕ) (c : Command) (r : Read) → tallied n (before c r) ≡ tallied (n + 1) r
-tallied-one n c (path cs) = ap Records (omega arith)
-tallied-one n c (refused w i) = refl
+-- ---- so many records and coordinates that are cut, and those that are still read
+module _ (t : Transform) (o : Point) where
+  abbrev tallied : ℕ → ℕ → Read → Judged
+  tallied n m (path cs) = Records (n + length cs) (m + cutsIn t o cs)
+  tallied n m (refused w i) = Refused w i
+
+  tallied-none : (r : Read) → tallied 0 0 r ≡ judgedOf t o r
+  unfolding judgedOf
+  tallied-none (path cs) = ap₂ Records (omega arith) (omega arith)
+  tallied-none (refused w i) = refl
+
+  tallied-one : (n m : ℕ) (c : Command) (r : Read) → tallied n m (before c r) ≡ tallied (n + 1) (m + cutsAt t o (pointsOf c)) r
+  unfolding cutsIn
+  tallied-one n m c (path cs) = ap₂ Records (omega arith) (omega arith)
+  tallied-one n m c (refused w i) = refl
 
 module _ (t : Transform) (o : Point) (s : List ℕ) where
   -- one step, where there is fuel
@@ -53,17 +66,19 @@ module _ (t : Transform) (o : Point) (s : List ℕ) where
       let e : suc f - 1 ≡ f = omega arith in
       rw e
 
-  -- n records have been judged, and from `at` on what is left is judged as the whole, behind the last of them
-  pub record Going (at n : ℕ) (closed : Bool) : Type 0 where
+  -- n records and m coordinates that are cut have been judged, and from `at` on what is left is judged as the whole, behind
+  -- the last of them
+  pub record Going (at n m : ℕ) (closed : Bool) : Type 0 where
     pub fuel : ℕ
     pub last : Option Command
     pub close : closed ≡ afterClose last
     pub enough : length s < fuel + at
     pub inside : at ≤ length s
     pub few : n ≤ at
-    pub same : tallied n (readFrom fuel t o s at n last) ≡ judgedOf (readList t o s)
+    pub few-cut : m ≤ 6 * n
+    pub same : tallied t o n m (readFrom fuel t o s at n last) ≡ judgedOf t o (readList t o s)
 
-  pub started : Going 0 0 false
+  pub started : Going 0 0 0 false
   unfolding readList
   started = record {
     fuel = length s + 1;
@@ -72,40 +87,46 @@ module _ (t : Transform) (o : Point) (s : List ℕ) where
     enough = omega arith;
     inside = omega arith;
     few = omega arith;
-    same = tallied-none (readFrom (length s + 1) t o s 0 0 none);
+    few-cut = omega arith;
+    same = tallied-none t o (readFrom (length s + 1) t o s 0 0 none);
   }
 
-  module _ (at n : ℕ) {closed : Bool} (g : Going at n closed) where
+  module _ (at n m : ℕ) {closed : Bool} (g : Going at n m closed) where
     rest : ℕ → Command → Read
     rest next c = readFrom (g .fuel - 1) t o s next (n + 1) (some c)
 
-    step-is : tallied n (readStep t o n (g .last) (stepAt s at) rest) ≡ judgedOf (readList t o s)
+    step-is : tallied t o n m (readStep t o n (g .last) (stepAt s at) rest) ≡ judgedOf t o (readList t o s)
     unfolding rest
-    step-is = ap (tallied n) (sym (one (g .fuel) at n (g .last) (omega arith))) ∙ g .same
+    step-is = ap (tallied t o n m) (sym (one (g .fuel) at n (g .last) (omega arith))) ∙ g .same
 
-    pub ended : stepAt s at ≡ step.End → Records n ≡ judgedOf (readList t o s)
+    pub ended : stepAt s at ≡ step.End → Records n m ≡ judgedOf t o (readList t o s)
     unfolding readStep
     ended e =
-        let z : n + 0 ≡ n = omega arith in
-        ap Records (sym z) ∙ rw e at step-is
+        let z : n ≡ n + 0 = omega arith in
+        let z′ : m ≡ m + cutsIn t o [] = unfold cutsIn in omega arith in
+        ap₂ Records z z′ ∙ rw e at step-is
 
-    pub turned : (w : Reason) → stepAt s at ≡ step.Refused w → Refused (refusalOf w) n ≡ judgedOf (readList t o s)
+    pub turned : (w : Reason) → stepAt s at ≡ step.Refused w → Refused (refusalOf w) n ≡ judgedOf t o (readList t o s)
     unfolding readStep
     turned w e = rw e at step-is
 
     module _ (c : Command) (next : ℕ) (e : stepAt s at ≡ step.Command c next) where
-      pub faulty : (w : Refusal) → verdictOf t o n closed c ≡ Faulty w → Refused w n ≡ judgedOf (readList t o s)
+      pub faulty : (w : Refusal) → ruling.Faulty w ≡ ruled (verdictOf t o n closed c) (cutsAt t o (pointsOf c)) → Refused w n ≡ judgedOf t o (readList t o s)
       unfolding readStep
-      faulty w v = rw (e, rw (g .close) at v) at step-is
+      faulty w v = rw (e, rw (g .close) at (ruled-faulty (verdictOf t o n closed c) (cutsAt t o (pointsOf c)) w v)) at step-is
 
-      goes : verdictOf t o n closed c ≡ Fine → tallied n (before c (rest next c)) ≡ judgedOf (readList t o s)
+      goes : verdictOf t o n closed c ≡ Fine → tallied t o n m (before c (rest next c)) ≡ judgedOf t o (readList t o s)
       unfolding readStep
       goes v = rw (e, rw (g .close) at v) at step-is
 
-      pub goes-on : {closed′ : Bool} → closed′ ≡ isClose c → verdictOf t o n closed c ≡ Fine → Going next (n + 1) closed′
+      pub few-more : (m′ : ℕ) → ruling.Cuts m′ ≡ ruled (verdictOf t o n closed c) (cutsAt t o (pointsOf c)) → m′ ≤ 6
+      few-more m′ v = rw (ruled-fine (verdictOf t o n closed c) (cutsAt t o (pointsOf c)) m′ v .1) (few-cuts t o c)
+
+      pub goes-on : {closed′ : Bool} (m′ : ℕ) → closed′ ≡ isClose c → ruling.Cuts m′ ≡ ruled (verdictOf t o n closed c) (cutsAt t o (pointsOf c)) → Going next (n + 1) (m + m′) closed′
       unfolding rest
-      goes-on k v =
+      goes-on m′ k v =
           let b = next-in s at c next e in
+          let f = ruled-fine (verdictOf t o n closed c) (cutsAt t o (pointsOf c)) m′ v in
           record {
             fuel = g .fuel - 1;
             last = some c;
@@ -113,7 +134,8 @@ module _ (t : Transform) (o : Point) (s : List ℕ) where
             enough = omega (arith, b .past, b .inside);
             inside = b .inside;
             few = omega (arith, b .past);
-            same = sym (tallied-one n c (rest next c)) ∙ goes v;
+            few-cut = omega (arith, g .few-cut, few-more m′ v);
+            same = rw (f .1) (sym (tallied-one t o n m c (rest next c)) ∙ goes (f .0));
           }
 
   -- ---- an accepted list: what is left of it are commands

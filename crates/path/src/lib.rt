@@ -20,7 +20,7 @@ ghost use Rattle.line.specs.Range.{Reach};
 ghost use Rattle.raster.specs.Tracing.{ReachAll};
 ghost use Rattle.path.specs.Refusals.{numberOf, refusalOf};
 ghost use Rattle.path.specs.Inputs.{finitePoint, finiteTransform, inputsOf};
-ghost use Rattle.path.specs.Reading.{spotAt, passed, allPass, verdictOf, readList, judgedOf};
+ghost use Rattle.path.specs.Reading.{spotAt, cutsAt, verdictOf, ruled, pointsRuled, bothRuled, Few, readList, judgedOf};
 ghost use Rattle.path.specs.Strokes.{fixedAt, strokeOf};
 ghost use Rattle.path.specs.Storing.{poolAt};
 ghost use Rattle.path.specs.Pouring.{poolOf, frameOf, Fits, Traced, Poured};
@@ -142,82 +142,101 @@ fn spot_at(t: Transform, o: Point, p: Point) -> Spot
     fixed::from_point(t.transform_point(p).plus(o))
 }
 
-fn passes(t: Transform, o: Point, p: Point) -> bool
-    ensures { λ r. ⌜ r ≡ passed (spotAt t o p) ⌝ }
+// A record, or points of it: fine, and so many of their coordinates are cut; or at fault.
+enum Ruling {
+    Cuts(u32),
+    Faulty(Refusal),
+}
+
+fn rule_point(t: Transform, o: Point, p: Point) -> Ruling
+    ensures { λ r. ⌜ r ≡ pointsRuled t o (p ∷ []) ⌝ }
 {
     match spot_at(t, o, p) {
-        Spot::At { point: _, cuts: _ } => true,
-        Spot::Outside => false,
+        Spot::At { point: _, cuts } => Ruling::Cuts(cuts),
+        Spot::Outside => Ruling::Faulty(Refusal::Outside),
     }
 }
 
-fn both_pass(t: Transform, o: Point, a: Point, b: Point) -> bool
-    ensures { λ r. ⌜ r ≡ allPass t o (a ∷ b ∷ []) ⌝ }
+// Two parts of a record, one behind the other.
+fn both(a: Ruling, b: Ruling) -> Ruling
+    requires { ⌜ Few a ⌝ ∗ ⌜ Few b ⌝ }
+    ensures { λ r. ⌜ r ≡ bothRuled a b ⌝ }
 {
-    passes(t, o, a) && passes(t, o, b)
+    match a {
+        Ruling::Cuts(m) => match b {
+            Ruling::Cuts(n) => Ruling::Cuts(m + n),
+            Ruling::Faulty(why) => Ruling::Faulty(why),
+        },
+        Ruling::Faulty(why) => Ruling::Faulty(why),
+    }
 }
 
-// Whether every point of a command passes the point rule.
-fn all_pass(t: Transform, o: Point, k: Command) -> bool
-    ensures { λ r. ⌜ r ≡ allPass t o (pointsOf k) ⌝ }
+fn rule_two(t: Transform, o: Point, a: Point, b: Point) -> Ruling
+    ensures { λ r. ⌜ r ≡ pointsRuled t o (a ∷ b ∷ []) ⌝ }
+{
+    both(rule_point(t, o, a), rule_point(t, o, b))
+}
+
+// Every point of a command by the point rule.
+fn rule_points(t: Transform, o: Point, k: Command) -> Ruling
+    ensures { λ r. ⌜ r ≡ pointsRuled t o (pointsOf k) ⌝ }
 {
     match k {
-        Command::MoveTo(p) => passes(t, o, p),
-        Command::LineTo(p) => passes(t, o, p),
-        Command::QuadTo(c, p) => both_pass(t, o, c, p),
-        Command::CurveTo(c, d, p) => passes(t, o, c) && both_pass(t, o, d, p),
-        Command::Close => true,
+        Command::MoveTo(p) => rule_point(t, o, p),
+        Command::LineTo(p) => rule_point(t, o, p),
+        Command::QuadTo(c, p) => rule_two(t, o, c, p),
+        Command::CurveTo(c, d, p) => both(rule_point(t, o, c), rule_two(t, o, d, p)),
+        Command::Close => Ruling::Cuts(0),
     }
 }
 
 // The record of index i: 11, then 18, then 12. `closed` says whether the record directly before it is Close.
-fn verdict_of(t: Transform, o: Point, i: u32, closed: bool, k: Command) -> Verdict
-    ensures { λ r. ⌜ r ≡ verdictOf t o i closed k ⌝ }
+fn rule(t: Transform, o: Point, i: u32, closed: bool, k: Command) -> Ruling
+    ensures { λ r. ⌜ r ≡ ruled (verdictOf t o i closed k) (cutsAt t o (pointsOf k)) ⌝ }
 {
     if i == 0 {
         if !k.is_move() {
-            return Verdict::Faulty(Refusal::First);
+            return Ruling::Faulty(Refusal::First);
         }
     }
     if closed && k.draws() {
-        return Verdict::Faulty(Refusal::AfterClose);
+        return Ruling::Faulty(Refusal::AfterClose);
     }
-    if all_pass(t, o, k) {
-        return Verdict::Fine;
-    }
-    Verdict::Faulty(Refusal::Outside)
+    rule_points(t, o, k)
 }
 
-// What a list is: so many records, or the first fault and the index of its record.
+// What a list is: so many records and coordinates that are cut, or the first fault and the index of its record.
 pub enum Judged {
-    Records(u32),
+    Records { count: u32, cut: u32 },
     Refused(Refusal, u32),
 }
 
 // Judges the records front to back.
 pub fn judge(list: &[u8], t: Transform, o: Point) -> Judged
     requires { ⌜ length (now list) ≤ 65536 ⌝ }
-    ensures { λ r. ⌜ r ≡ judgedOf (readList t o (now (list .entry))) ⌝ }
+    ensures { λ r. ⌜ r ≡ judgedOf t o (readList t o (now (list .entry))) ⌝ }
 {
     let mut at: usize = 0;
     let mut n: u32 = 0;
+    let mut cut: u32 = 0;
     let mut closed = false;
     loop {
         match list::step_at(list, at) {
             Step::End => {
-                return Judged::Records(n);
+                return Judged::Records { count: n, cut };
             }
             Step::Refused(why) => {
                 return Judged::Refused(refusal_of(why), n);
             }
             Step::Command(k, next) => {
-                match verdict_of(t, o, n, closed, k) {
-                    Verdict::Fine => {
+                match rule(t, o, n, closed, k) {
+                    Ruling::Cuts(m) => {
                         n += 1;
+                        cut += m;
                         at = next;
                         closed = k.is_close();
                     }
-                    Verdict::Faulty(why) => {
+                    Ruling::Faulty(why) => {
                         return Judged::Refused(why, n);
                     }
                 }

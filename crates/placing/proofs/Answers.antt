@@ -1,6 +1,6 @@
 -- What was judged tells how the list was read: turned away, or accepted with its commands. The answers follow.
 use Prim.Native.Nat.{ℕ, _≤_}
-use mathlib.Core.Path.{_≡_, refl, sym, _∙_}
+use mathlib.Core.Path.{_≡_, refl, sym, ap₂, _∙_}
 use mathlib.Core.Bool.{Bool, true, false, not, cond, _&&_}
 use mathlib.Core.List.{List, [], _∷_}
 use native.Mathlib.Omega.{arith}
@@ -24,7 +24,7 @@ use Rattle.path.specs.declared.Verdict.{Verdict}
 use Rattle.path.specs.declared.Verdict.the-variants.{Fine, Faulty}
 use Rattle.path.specs.declared.Judged.the-variants.{Records, Refused}
 use Rattle.path.specs.Inputs.{mostBytes, finitePoint, finiteTransform, inputsOf}
-use Rattle.path.specs.Reading.{Read, refused, path, passed, readList, judgedOf}
+use Rattle.path.specs.Reading.{Read, refused, path, passed, cutsIn, readList, judgedOf}
 use Rattle.placing.specs.declared.Boxed.the-variants as boxed
 use Rattle.placing.specs.declared.Laid.the-variants as laid
 use Rattle.placing.specs.Placing.{unlessFaulty, readChecked, nowhere, pathBox, boundsOf, laidBox, laidPath, laidOf}
@@ -43,20 +43,21 @@ module _ (t : Transform) (o : Point) (s : List ℕ) where
       go false true h k = absurd (let z : _≡_ {A = ℕ} 0 1 = cc in omega arith)
       go true b h k = absurd (let z : _≡_ {A = ℕ} 0 1 = cc in omega arith)
 
-  pub checked-fine : inputsOf t o (length s) ≡ Fine → judgedOf (readList t o s) ≡ judgedOf (readChecked t o s)
+  pub checked-fine : inputsOf t o (length s) ≡ Fine → judgedOf t o (readList t o s) ≡ judgedOf t o (readChecked t o s)
   unfolding readChecked
   checked-fine e = rw e
 
-  pub checked-faulty : (w : Refusal) → inputsOf t o (length s) ≡ Faulty w → Refused w 0 ≡ judgedOf (readChecked t o s)
+  pub checked-faulty : (w : Refusal) → inputsOf t o (length s) ≡ Faulty w → Refused w 0 ≡ judgedOf t o (readChecked t o s)
   unfolding readChecked judgedOf
   checked-faulty w e = rw e
 
   -- ---- accepted
-  pub record Accepted (n : ℕ) : Type 0 where
+  pub record Accepted (n m : ℕ) : Type 0 where
     pub cs : List Command
     pub reads : readList t o s ≡ path cs
     pub checked : readChecked t o s ≡ path cs
     pub count : n ≡ length cs
+    pub cut : m ≡ cutsIn t o cs
 
   passes-on : (v : Verdict) (cs : List Command) → unlessFaulty v (readList t o s) ≡ path cs → readList t o s ≡ path cs
   passes-on Fine cs e = e
@@ -66,32 +67,32 @@ module _ (t : Transform) (o : Point) (s : List ℕ) where
   unfolding readChecked
   was-read cs e = passes-on (inputsOf t o (length s)) cs e
 
-  tells : (n : ℕ) (r : Read) → readChecked t o s ≡ r → Records n ≡ judgedOf r → Accepted n
+  tells : (n m : ℕ) (r : Read) → readChecked t o s ≡ r → Records n m ≡ judgedOf t o r → Accepted n m
   unfolding judgedOf
-  tells n (path cs) e h = record { cs = cs; reads = was-read cs e; checked = e; count = cc }
-  tells n (refused w i) e h = absurd (let z : _≡_ {A = ℕ} 0 1 = cc in omega arith)
+  tells n m (path cs) e h = record { cs = cs; reads = was-read cs e; checked = e; count = cc; cut = cc }
+  tells n m (refused w i) e h = absurd (let z : _≡_ {A = ℕ} 0 1 = cc in omega arith)
 
-  pub accepted : (n : ℕ) → Records n ≡ judgedOf (readChecked t o s) → Accepted n
-  accepted n h = tells n (readChecked t o s) refl h
+  pub accepted : (n m : ℕ) → Records n m ≡ judgedOf t o (readChecked t o s) → Accepted n m
+  accepted n m h = tells n m (readChecked t o s) refl h
 
   -- ---- turned away
-  away : (w : Refusal) (i : ℕ) (r : Read) → Refused w i ≡ judgedOf r → r ≡ refused w i
+  away : (w : Refusal) (i : ℕ) (r : Read) → Refused w i ≡ judgedOf t o r → r ≡ refused w i
   unfolding judgedOf
   away w i (refused v k) h = cc
   away w i (path cs) h = absurd (let z : _≡_ {A = ℕ} 0 1 = cc in omega arith)
 
-  pub turned : (w : Refusal) (i : ℕ) → Refused w i ≡ judgedOf (readChecked t o s) → readChecked t o s ≡ refused w i
+  pub turned : (w : Refusal) (i : ℕ) → Refused w i ≡ judgedOf t o (readChecked t o s) → readChecked t o s ≡ refused w i
   turned w i h = away w i (readChecked t o s) h
 
 -- ---- bounds
 module _ (t : Transform) (s : List ℕ) where
-  pub boxed-at : (n : ℕ) (b : Bounds) → Records n ≡ judgedOf (readChecked t nowhere s) → Boxes t s b → boxed.Box b ≡ boundsOf t s
+  pub boxed-at : (n m : ℕ) (b : Bounds) → Records n m ≡ judgedOf t nowhere (readChecked t nowhere s) → Boxes t s b → boxed.Box b ≡ boundsOf t s
   unfolding boundsOf
-  boxed-at n b h k =
-      let a = accepted t nowhere s n h in
+  boxed-at n m b h k =
+      let a = accepted t nowhere s n m h in
       rw (a .checked, k .boxes nowhere (a .cs) (a .reads))
 
-  pub boxed-away : (w : Refusal) (i : ℕ) → Refused w i ≡ judgedOf (readChecked t nowhere s) → boxed.Refused w i ≡ boundsOf t s
+  pub boxed-away : (w : Refusal) (i : ℕ) → Refused w i ≡ judgedOf t nowhere (readChecked t nowhere s) → boxed.Refused w i ≡ boundsOf t s
   unfolding boundsOf
   boxed-away w i h = rw (turned t nowhere s w i h)
 
@@ -107,11 +108,11 @@ module _ (g : Origin) (o : Point) (b : Bounds) (l : Lies o b) where
   parts : (f : Point) (p : Placement) → placedOf g o b ≡ placed.At f p → placed.At f p ≡ placed.At (negated (shifted o (b .min))) (placementOf g (shifted o (b .min)) (shifted o (b .max)))
   parts f p e = sym e ∙ placed-near
 
-  pub lays : (f : Point) (p : Placement) → placedOf g o b ≡ placed.At f p → laid.At f p ≡ laidBox g o b
+  pub lays : (f : Point) (p : Placement) (m : ℕ) → placedOf g o b ≡ placed.At f p → laid.At f p m ≡ laidBox g o b m
   unfolding laidBox
-  lays f p e = go (parts f p e)
+  lays f p m e = go (parts f p e)
     where
-      go : {f₁ f₂ : Point} {p₁ p₂ : Placement} → placed.At f₁ p₁ ≡ placed.At f₂ p₂ → laid.At f₁ p₁ ≡ laid.At f₂ p₂
+      go : {f₁ f₂ : Point} {p₁ p₂ : Placement} → placed.At f₁ p₁ ≡ placed.At f₂ p₂ → laid.At f₁ p₁ m ≡ laid.At f₂ p₂ m
       go h = cc
 
   pub never-outside : placedOf g o b ≡ placed.Outside → ⊥
@@ -136,9 +137,9 @@ module _ (t : Transform) (o : Point) (s : List ℕ) where
   path-lies [] r f = empty-lies t o (f refl)
   path-lies (c ∷ cs) r f = accepted-lies t o s c cs r
 
-  pub box-lies : (n : ℕ) → Records n ≡ judgedOf (readChecked t o s) → Allowed o n → (b : Bounds) → Boxes t s b → Lies o b
-  box-lies n h ok b k =
-      let a = accepted t o s n h in
+  pub box-lies : (n m : ℕ) → Records n m ≡ judgedOf t o (readChecked t o s) → Allowed o n → (b : Bounds) → Boxes t s b → Lies o b
+  box-lies n m h ok b k =
+      let a = accepted t o s n m h in
       rw (k .boxes o (a .cs) (a .reads)) (path-lies (a .cs) (a .reads) (λ z. ok .allowed (a .count ∙ z)))
 
   -- so geometry's placement of an accepted list is never outside
@@ -146,11 +147,11 @@ module _ (t : Transform) (o : Point) (s : List ℕ) where
   accepted-placed g c cs e = never-outside g o (pathBox t (c ∷ cs)) (accepted-lies t o s c cs e)
 
 module _ (g : Origin) (t : Transform) (o : Point) (s : List ℕ) where
-  pub laid-away : (w : Refusal) (i : ℕ) → Refused w i ≡ judgedOf (readChecked t o s) → laid.Refused w i ≡ laidOf g t o s
+  pub laid-away : (w : Refusal) (i : ℕ) → Refused w i ≡ judgedOf t o (readChecked t o s) → laid.Refused w i ≡ laidOf g t o s
   unfolding laidOf
   laid-away w i h = rw (turned t o s w i h)
 
-  module _ (n : ℕ) (h : Records n ≡ judgedOf (readChecked t o s)) where
+  module _ (n m : ℕ) (h : Records n m ≡ judgedOf t o (readChecked t o s)) where
     laid-is : (cs : List Command) → readChecked t o s ≡ path cs → laidPath g t o cs ≡ laidOf g t o s
     unfolding laidOf
     laid-is cs e = rw e
@@ -163,16 +164,16 @@ module _ (g : Origin) (t : Transform) (o : Point) (s : List ℕ) where
 
     pub offset-refused : n ≡ 0 → passed (spotOf o) ≡ false → laid.Refused Outside 0 ≡ laidOf g t o s
     offset-refused z f =
-        let a = accepted t o s n h in
+        let a = accepted t o s n m h in
         none-refused (a .cs) (omega (arith, a .count)) f ∙ laid-is (a .cs) (a .checked)
 
     module _ (ok : Allowed o n) (b : Bounds) (k : Boxes t s b) where
-      path-laid : (cs : List Command) → (length cs ≡ 0 → passed (spotOf o) ≡ true) → laidBox g o (pathBox t cs) ≡ laidPath g t o cs
+      path-laid : (cs : List Command) → (length cs ≡ 0 → passed (spotOf o) ≡ true) → laidBox g o (pathBox t cs) (cutsIn t o cs) ≡ laidPath g t o cs
       unfolding laidPath
       path-laid [] f = rw (f refl)
       path-laid (c ∷ cs) f = refl
 
-      pub laid-at : laidBox g o b ≡ laidOf g t o s
+      pub laid-at : laidBox g o b m ≡ laidOf g t o s
       laid-at =
-          let a = accepted t o s n h in
-          rw (k .boxes o (a .cs) (a .reads)) (path-laid (a .cs) (λ z. ok .allowed (a .count ∙ z)) ∙ laid-is (a .cs) (a .checked))
+          let a = accepted t o s n m h in
+          ap₂ (laidBox g o) (k .boxes o (a .cs) (a .reads)) (a .cut) ∙ path-laid (a .cs) (λ z. ok .allowed (a .count ∙ z)) ∙ laid-is (a .cs) (a .checked)

@@ -15,7 +15,7 @@ boxNumbersOf (boxed.Box b) = record { number = 0; index = 0; «min_x» = b .min 
 boxNumbersOf (boxed.Refused w i) = record { number = numberOf w; index = i; «min_x» = zeroF; «min_y» = zeroF; «max_x» = zeroF; «max_y» = zeroF }
 
 abbrev pub placeNumbersOf : Laid → PlaceNumbers
-placeNumbersOf (laid.At o p) = record {
+placeNumbersOf (laid.At o p cut) = record {
   number = 0;
   index = 0;
   «offset_x» = o .x;
@@ -24,6 +24,7 @@ placeNumbersOf (laid.At o p) = record {
   top = p .top;
   width = p .width;
   height = p .height;
+  cut = cut;
 }
 placeNumbersOf (laid.Refused w i) = record {
   number = numberOf w;
@@ -34,4 +35,5 @@ placeNumbersOf (laid.Refused w i) = record {
   top = pos 0;
   width = 0;
   height = 0;
+  cut = 0;
 }

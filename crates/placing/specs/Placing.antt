@@ -21,7 +21,7 @@ use Rattle.path.specs.declared.Verdict.{Verdict}
 use Rattle.path.specs.declared.Verdict.the-variants.{Fine, Faulty}
 use Rattle.path.specs.declared.Refusal.the-variants.{Outside}
 use Rattle.path.specs.Inputs.{inputsOf}
-use Rattle.path.specs.Reading.{Read, refused, path, passed, readList}
+use Rattle.path.specs.Reading.{Read, refused, path, passed, cutsIn, readList}
 use Rattle.placing.specs.declared.Boxed.{Boxed}
 use Rattle.placing.specs.declared.Boxed.the-variants as boxed
 use Rattle.placing.specs.declared.Laid.{Laid}
@@ -64,13 +64,13 @@ boundsOf t s = boxRead t (readChecked t nowhere s)
 
 -- ---- placement
 -- where the box lies with the offset added, rounded outward to whole pixels, and the offset that brings it to the mask
--- (the crate `geometry`)
-abbrev pub laidBetween : Origin → Point → Point → Laid
-laidBetween g a b = laid.At (negated a) (placementOf g a b)
+-- (the crate `geometry`); so many coordinates are cut
+abbrev pub laidBetween : Origin → Point → Point → ℕ → Laid
+laidBetween g a b cut = laid.At (negated a) (placementOf g a b) cut
 
-unfoldable pub laidBox : Origin → Point → Bounds → Laid
+unfoldable pub laidBox : Origin → Point → Bounds → ℕ → Laid
 unfolding add neg floorZ ceilZ floorOf
-laidBox g o b = laidBetween g (shifted o (b .min)) (shifted o (b .max))
+laidBox g o b cut = laidBetween g (shifted o (b .min)) (shifted o (b .max)) cut
 
 -- an empty list is 12 with index 0 where the offset by itself fails the point rule
 abbrev pub ifPassed : Bool → Laid → Laid
@@ -78,9 +78,9 @@ ifPassed true a = a
 ifPassed false a = laid.Refused Outside 0
 
 unfoldable pub laidPath : Origin → Transform → Point → List Command → Laid
-unfolding pathBox laidBox spotOf
-laidPath g t o [] = ifPassed (passed (spotOf o)) (laidBox g o (pathBox t []))
-laidPath g t o (c ∷ cs) = laidBox g o (pathBox t (c ∷ cs))
+unfolding pathBox laidBox spotOf cutsIn
+laidPath g t o [] = ifPassed (passed (spotOf o)) (laidBox g o (pathBox t []) (cutsIn t o []))
+laidPath g t o (c ∷ cs) = laidBox g o (pathBox t (c ∷ cs)) (cutsIn t o (c ∷ cs))
 
 abbrev pub laidRead : Origin → Transform → Point → Read → Laid
 laidRead g t o (refused w i) = laid.Refused w i

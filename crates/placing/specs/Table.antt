@@ -34,21 +34,21 @@ boxRefused n i = record { number = n; index = i; «min_x» = float 0; «min_y» 
 abbrev placement : Origin → Transform → Point → List ℕ → PlaceNumbers
 placement g t o s = placeNumbersOf (laidOf g t o s)
 
-abbrev lies : ℕ → ℕ → ℤ → ℤ → ℕ → ℕ → PlaceNumbers
-lies a b l t w h = record { number = 0; index = 0; «offset_x» = float a; «offset_y» = float b; left = l; top = t; width = w; height = h }
+abbrev lies : ℕ → ℕ → ℤ → ℤ → ℕ → ℕ → ℕ → PlaceNumbers
+lies a b l t w h cut = record { number = 0; index = 0; «offset_x» = float a; «offset_y» = float b; left = l; top = t; width = w; height = h; cut = cut }
 
 abbrev placeRefused : ℕ → ℕ → PlaceNumbers
-placeRefused n i = record { number = n; index = i; «offset_x» = float 0; «offset_y» = float 0; left = pos 0; top = pos 0; width = 0; height = 0 }
+placeRefused n i = record { number = n; index = i; «offset_x» = float 0; «offset_y» = float 0; left = pos 0; top = pos 0; width = 0; height = 0; cut = 0 }
 
 -- ---- K11, by a list of the two corners (0.5,0.25) and (3.25,2), offset (−1,1), bottom-left: 4×2, left −1, top 3
 abbrev corners : List ℕ
 corners = move 0x3f00_0000 0x3e80_0000 ++ line 0x4050_0000 0x4000_0000
 
-pub k11 : placement BottomLeft identityOf (at 0xbf80_0000 0x3f80_0000) corners ≡ lies 0x3f80_0000 0xbf80_0000 (negsuc 0) (pos 3) 4 2
+pub k11 : placement BottomLeft identityOf (at 0xbf80_0000 0x3f80_0000) corners ≡ lies 0x3f80_0000 0xbf80_0000 (negsuc 0) (pos 3) 4 2 0
 unfolding ofBits laidOf
 k11 = refl
 
-pub k11-top-left : placement TopLeft identityOf (at 0xbf80_0000 0x3f80_0000) corners ≡ lies 0x3f80_0000 0xbf80_0000 (negsuc 0) (pos 1) 4 2
+pub k11-top-left : placement TopLeft identityOf (at 0xbf80_0000 0x3f80_0000) corners ≡ lies 0x3f80_0000 0xbf80_0000 (negsuc 0) (pos 1) 4 2 0
 unfolding ofBits laidOf
 k11-top-left = refl
 
@@ -63,16 +63,16 @@ unfolding ofBits boundsOf
 empty-box = refl
 
 -- offset (0.5,0.5): 1×1, left 0, top 0, and 1 from bottom-left; the new offset is −0, −0
-pub empty-top-left : placement TopLeft identityOf (at 0x3f00_0000 0x3f00_0000) [] ≡ lies 0x8000_0000 0x8000_0000 (pos 0) (pos 0) 1 1
+pub empty-top-left : placement TopLeft identityOf (at 0x3f00_0000 0x3f00_0000) [] ≡ lies 0x8000_0000 0x8000_0000 (pos 0) (pos 0) 1 1 0
 unfolding ofBits laidOf
 empty-top-left = refl
 
-pub empty-bottom-left : placement BottomLeft identityOf (at 0x3f00_0000 0x3f00_0000) [] ≡ lies 0x8000_0000 0x8000_0000 (pos 0) (pos 1) 1 1
+pub empty-bottom-left : placement BottomLeft identityOf (at 0x3f00_0000 0x3f00_0000) [] ≡ lies 0x8000_0000 0x8000_0000 (pos 0) (pos 1) 1 1 0
 unfolding ofBits laidOf
 empty-bottom-left = refl
 
 -- offset 4096 passes, 4096.00390625 is 12 with index 0, as x and as y
-pub empty-farthest : placement TopLeft identityOf (at 0x4580_0000 0) [] ≡ lies 0xc580_0000 0x8000_0000 (pos 4096) (pos 0) 0 0
+pub empty-farthest : placement TopLeft identityOf (at 0x4580_0000 0) [] ≡ lies 0xc580_0000 0x8000_0000 (pos 4096) (pos 0) 0 0 0
 unfolding ofBits laidOf
 empty-farthest = refl
 
@@ -95,18 +95,27 @@ unfolding ofBits boundsOf
 zero-moved = refl
 
 -- a tie keeps the first: 0 then −0 gives the new offset −0, and −0 then 0 gives +0
-pub tie : placement TopLeft still (at 0x8000_0000 0x8000_0000) (move 0 0 ++ line 0x8000_0000 0x8000_0000) ≡ lies 0x8000_0000 0x8000_0000 (pos 0) (pos 0) 0 0
+pub tie : placement TopLeft still (at 0x8000_0000 0x8000_0000) (move 0 0 ++ line 0x8000_0000 0x8000_0000) ≡ lies 0x8000_0000 0x8000_0000 (pos 0) (pos 0) 0 0 0
 unfolding ofBits laidOf
 tie = refl
 
-pub tie-turned : placement TopLeft still (at 0x8000_0000 0x8000_0000) (move 0x8000_0000 0x8000_0000 ++ line 0 0) ≡ lies 0 0 (pos 0) (pos 0) 0 0
+pub tie-turned : placement TopLeft still (at 0x8000_0000 0x8000_0000) (move 0x8000_0000 0x8000_0000 ++ line 0 0) ≡ lies 0 0 (pos 0) (pos 0) 0 0 0
 unfolding ofBits laidOf
 tie-turned = refl
 
 -- ---- the point rule judges the cut number: 4096.0034 passes, and both ways gives 8194×8194, left −4097, new offset 4097
-pub farthest : placement TopLeft identityOf (at 0 0) (move 0xc580_0007 0xc580_0007 ++ line 0x4580_0007 0x4580_0007) ≡ lies 0x4580_0800 0x4580_0800 (negsuc 4096) (negsuc 4096) 8194 8194
+pub farthest : placement TopLeft identityOf (at 0 0) (move 0xc580_0007 0xc580_0007 ++ line 0x4580_0007 0x4580_0007) ≡ lies 0x4580_0800 0x4580_0800 (negsuc 4096) (negsuc 4096) 8194 8194 4
 unfolding ofBits laidOf
 farthest = refl
+
+-- ---- both parts of both points of K11 are cut where the offset is (1/512,1/512); of an empty list nothing is
+pub cut-all : placement TopLeft identityOf (at 0x3b00_0000 0x3b00_0000) corners ≡ lies 0x8000_0000 0x8000_0000 (pos 0) (pos 0) 4 3 4
+unfolding ofBits laidOf
+cut-all = refl
+
+pub cut-none : placement TopLeft identityOf (at 0x3b00_0000 0x3b00_0000) [] ≡ lies 0x8000_0000 0x8000_0000 (pos 0) (pos 0) 1 1 0
+unfolding ofBits laidOf
+cut-none = refl
 
 -- a transform may kill a huge coordinate, 3e38 with xx = 0, and not an infinite one
 abbrev flat : Transform

@@ -27,10 +27,17 @@ pub enum Boxed {
     Refused { why: Refusal, record: u32 },
 }
 
-// What placement answers: the new offset, and where the mask lies.
+// What placement answers: the new offset, where the mask lies, and how many coordinates are cut.
 pub enum Laid {
-    At { offset: Point, placement: Placement },
-    Refused { why: Refusal, record: u32 },
+    At {
+        offset: Point,
+        placement: Placement,
+        cut: u32,
+    },
+    Refused {
+        why: Refusal,
+        record: u32,
+    },
 }
 
 // The answers in the rules' numbers, laid out for C.
@@ -54,6 +61,7 @@ pub struct PlaceNumbers {
     pub top: i32,
     pub width: u32,
     pub height: u32,
+    pub cut: u32,
 }
 
 // The point (0, 0).
@@ -65,7 +73,7 @@ fn zero_point() -> Point
 
 // Refusals 6 to 12 and 18.
 fn judge_inputs(list: &[u8], t: Transform, o: Point) -> Judged
-    ensures { λ r. ⌜ r ≡ judgedOf (readChecked t o (now (list .entry))) ⌝ }
+    ensures { λ r. ⌜ r ≡ judgedOf t o (readChecked t o (now (list .entry))) ⌝ }
 {
     match path::check_inputs(t, o, list.len()) {
         Verdict::Fine => path::judge(list, t, o),
@@ -139,7 +147,7 @@ pub fn bounds(list: &[u8], t: Transform) -> Boxed
     ensures { λ r. ⌜ r ≡ boundsOf t (now (list .entry)) ⌝ }
 {
     match judge_inputs(list, t, zero_point()) {
-        Judged::Records(_) => Boxed::Box(box_list(list, t)),
+        Judged::Records { count: _, cut: _ } => Boxed::Box(box_list(list, t)),
         Judged::Refused(why, record) => Boxed::Refused { why, record },
     }
 }
@@ -154,13 +162,17 @@ fn offset_passes(o: Point) -> bool
     }
 }
 
-// The placement of a box that lies near.
-fn lay(origin: Origin, o: Point, b: Bounds) -> Laid
+// The placement of a box that lies near, with so many coordinates that are cut.
+fn lay(origin: Origin, o: Point, b: Bounds, cut: u32) -> Laid
     requires { ⌜ Lies o b ⌝ }
-    ensures { λ r. ⌜ r ≡ laidBox origin o b ⌝ }
+    ensures { λ r. ⌜ r ≡ laidBox origin o b cut ⌝ }
 {
     match Placement::compute(origin, o, b) {
-        Placed::At { offset, placement } => Laid::At { offset, placement },
+        Placed::At { offset, placement } => Laid::At {
+            offset,
+            placement,
+            cut,
+        },
         Placed::Outside => Laid::Refused {
             why: Refusal::Outside,
             record: 0,
@@ -173,8 +185,8 @@ pub fn placement(list: &[u8], t: Transform, o: Point, origin: Origin) -> Laid
     ensures { λ r. ⌜ r ≡ laidOf origin t o (now (list .entry)) ⌝ }
 {
     match judge_inputs(list, t, o) {
-        Judged::Records(n) => {
-            if n == 0 {
+        Judged::Records { count, cut } => {
+            if count == 0 {
                 if !offset_passes(o) {
                     return Laid::Refused {
                         why: Refusal::Outside,
@@ -182,7 +194,7 @@ pub fn placement(list: &[u8], t: Transform, o: Point, origin: Origin) -> Laid
                     };
                 }
             }
-            lay(origin, o, box_list(list, t))
+            lay(origin, o, box_list(list, t), cut)
         }
         Judged::Refused(why, record) => Laid::Refused { why, record },
     }
@@ -215,7 +227,11 @@ pub fn place_numbers(a: Laid) -> PlaceNumbers
     ensures { λ r. ⌜ r ≡ placeNumbersOf a ⌝ }
 {
     match a {
-        Laid::At { offset, placement } => PlaceNumbers {
+        Laid::At {
+            offset,
+            placement,
+            cut,
+        } => PlaceNumbers {
             number: 0,
             index: 0,
             offset_x: offset.x,
@@ -224,6 +240,7 @@ pub fn place_numbers(a: Laid) -> PlaceNumbers
             top: placement.top,
             width: placement.width,
             height: placement.height,
+            cut,
         },
         Laid::Refused { why, record } => PlaceNumbers {
             number: path::number_of(why),
@@ -234,6 +251,7 @@ pub fn place_numbers(a: Laid) -> PlaceNumbers
             top: 0,
             width: 0,
             height: 0,
+            cut: 0,
         },
     }
 }

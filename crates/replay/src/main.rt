@@ -1,6 +1,6 @@
 // Replays the answers that `compare fixture` stored in the file `answers`, draws and places each of its cases, and writes how many differ.
-// Number 0 and all that goes with it is the Rust's answer. The Rust refuses nothing: every other number is that of compare's own reading of
-// docs/RULES.md, which for 13 counts the Rust's cells.
+// Number 0 and what goes with it is the Rust's answer, but for the cut coordinates, which compare's own reading of docs/RULES.md counts. The Rust
+// refuses nothing: every other number is that reading's, which for 13 counts the Rust's cells.
 // The file starts with MZREPLAY, then the count of drawings, the drawings, the count of placements, the placements; all numbers are little-endian.
 use geometry::Origin;
 use geometry::Point;
@@ -199,10 +199,10 @@ fn same_checksum(s: &[u8], at: usize, h: u64) -> bool {
 }
 
 fn mask_agrees(s: &[u8], at: usize, mask: &[u8]) -> bool {
-    if byte_at(s, add(at, 78)) == 1 {
-        return same_bytes(s, add(at, 79), mask);
+    if byte_at(s, add(at, 82)) == 1 {
+        return same_bytes(s, add(at, 83), mask);
     }
-    same_checksum(s, add(at, 79), checksum(mask))
+    same_checksum(s, add(at, 83), checksum(mask))
 }
 
 fn numbers_agree(s: &[u8], at: usize, n: Numbers) -> bool {
@@ -215,7 +215,10 @@ fn numbers_agree(s: &[u8], at: usize, n: Numbers) -> bool {
     if n.records as usize != word_at(s, add(at, 66)) {
         return false;
     }
-    n.cells as usize == word_at(s, add(at, 70))
+    if n.cells as usize != word_at(s, add(at, 70)) {
+        return false;
+    }
+    n.cut as usize == word_at(s, add(at, 74))
 }
 
 // All words are zero after 0 and 13, and as they were after every other number.
@@ -257,7 +260,7 @@ fn replay_drawing(s: &[u8], at: usize, mask: &mut [u8], words: &mut [u32]) -> bo
     if s.len() < end {
         return false;
     }
-    let m = word_at(s, add(end, 74));
+    let m = word_at(s, add(end, 78));
     if mask.len() < m {
         return false;
     }
@@ -270,10 +273,10 @@ fn replay_drawing(s: &[u8], at: usize, mask: &mut [u8], words: &mut [u32]) -> bo
 
 fn after_drawing(s: &[u8], at: usize) -> usize {
     let end = list_end(s, at);
-    if byte_at(s, add(end, 78)) == 1 {
-        return add(add(end, 79), word_at(s, add(end, 74)));
+    if byte_at(s, add(end, 82)) == 1 {
+        return add(add(end, 83), word_at(s, add(end, 78)));
     }
-    add(end, 87)
+    add(end, 91)
 }
 
 fn one_unless(same: bool) -> usize {
@@ -356,7 +359,10 @@ fn place_agrees(s: &[u8], at: usize, n: PlaceNumbers) -> bool {
     if n.width as usize != word_at(s, add(at, 24)) {
         return false;
     }
-    n.height as usize == word_at(s, add(at, 28))
+    if n.height as usize != word_at(s, add(at, 28)) {
+        return false;
+    }
+    n.cut as usize == word_at(s, add(at, 32))
 }
 
 fn replay_placement(s: &[u8], at: usize) -> bool {
@@ -388,7 +394,7 @@ fn placements(s: &[u8], from: usize, count: usize) -> Tally {
         accepted = add(accepted, one_unless(number != 0));
         refused = add(refused, one_unless(number == 0));
         differ = add(differ, one_unless(replay_placement(s, at)));
-        at = add(end, 65);
+        at = add(end, 69);
     }
     Tally {
         at,

@@ -71,8 +71,17 @@ n0 = 0x0000_0000
 abbrev pub −0 : ℕ
 −0 = 0x8000_0000
 
+abbrev pub least : ℕ  -- the least float above 0
+least = 0x0000_0001
+
 abbrev pub n0·0001 : ℕ  -- 2^−13
 n0·0001 = 0x3900_0000
+
+abbrev pub −0·002 : ℕ  -- −1/512
+−0·002 = 0xbb00_0000
+
+abbrev pub n0·002 : ℕ  -- 1/512
+n0·002 = 0x3b00_0000
 
 abbrev pub n0·25 : ℕ
 n0·25 = 0x3e80_0000
@@ -91,6 +100,9 @@ n1 = 0x3f80_0000
 
 abbrev pub n1·0002 : ℕ  -- 1 + 2^−12
 n1·0002 = 0x3f80_0800
+
+abbrev pub n1·002 : ℕ  -- 1 + 1/512
+n1·002 = 0x3f80_4000
 
 abbrev pub n1·5 : ℕ
 n1·5 = 0x3fc0_0000
@@ -269,17 +281,25 @@ shiftedBy x y l = record {
 
 -- ---- a row: a label, a list, a mask of so many 7s, a workspace of so many 9s, and what is to come of them
 pub data Told : Type 0 where
-  drawn : ℕ → ℕ → List ℕ → Told  -- records, cells and the whole mask; all words are zero
+  drawn : ℕ → ℕ → List ℕ → Told  -- records, cells and the whole mask; all words are zero, and no coordinate is cut
+  drawnCut : ℕ → ℕ → ℕ → List ℕ → Told  -- records, cells, cut coordinates and the whole mask
   full : ℕ → Told  -- 13 with its index: the mask is as it was, all words are zero
   turned : ℕ → ℕ → Told  -- a refusal's number and index: mask and words are as they were
 
-abbrev pub counts : ℕ → ℕ → ℕ → ℕ → Numbers
-counts number index records cells = record { number = number; index = index; records = records; cells = cells }
+abbrev pub counts : ℕ → ℕ → ℕ → ℕ → ℕ → Numbers
+counts number index records cells cut = record {
+  number = number;
+  index = index;
+  records = records;
+  cells = cells;
+  cut = cut;
+}
 
 abbrev pub wanted : ℕ → ℕ → Told → Outcome
-wanted m w (drawn r c mask) = record { answer = counts 0 0 r c; mask = mask; words = replicate w 0 }
-wanted m w (full i) = record { answer = counts 13 i 0 0; mask = replicate m 7; words = replicate w 0 }
-wanted m w (turned n i) = record { answer = counts n i 0 0; mask = replicate m 7; words = replicate w 9 }
+wanted m w (drawn r c mask) = record { answer = counts 0 0 r c 0; mask = mask; words = replicate w 0 }
+wanted m w (drawnCut r c k mask) = record { answer = counts 0 0 r c k; mask = mask; words = replicate w 0 }
+wanted m w (full i) = record { answer = counts 13 i 0 0 0; mask = replicate m 7; words = replicate w 0 }
+wanted m w (turned n i) = record { answer = counts n i 0 0 0; mask = replicate m 7; words = replicate w 9 }
 
 abbrev pub Draws : Label → List ℕ → ℕ → ℕ → Told → Type 0  -- it is drawn as told
 Draws l s m w told = draw l s (replicate m 7) (replicate w 9) ≡ wanted m w told
@@ -308,8 +328,9 @@ boxRefused n i = record {
   «max_y» = float n0;
 }
 
-abbrev pub lies : ℕ → ℕ → ℤ → ℤ → ℕ → ℕ → PlaceNumbers  -- the new offset, left, top, width and height
-lies a b left top width height = record {
+-- the new offset, left, top, width, height and cut coordinates
+abbrev pub liesCut : ℕ → ℕ → ℤ → ℤ → ℕ → ℕ → ℕ → PlaceNumbers
+liesCut a b left top width height cut = record {
   number = 0;
   index = 0;
   «offset_x» = float a;
@@ -318,7 +339,11 @@ lies a b left top width height = record {
   top = top;
   width = width;
   height = height;
+  cut = cut;
 }
+
+abbrev pub lies : ℕ → ℕ → ℤ → ℤ → ℕ → ℕ → PlaceNumbers  -- no coordinate is cut
+lies a b left top width height = liesCut a b left top width height 0
 
 abbrev pub placeRefused : ℕ → ℕ → PlaceNumbers
 placeRefused n i = record {
@@ -330,4 +355,5 @@ placeRefused n i = record {
   top = pos 0;
   width = 0;
   height = 0;
+  cut = 0;
 }

@@ -9,14 +9,14 @@ use Rattle.sweep.specs.declared.Fill.the-variants.{NonZero, EvenOdd}
 use Rattle.list.specs.Written.{move, line, close}
 use Rattle.paper.specs.Numbers.{wrapped}
 use Rattle.paper.specs.PathList.{commandIn}
-use Rattle.paper.specs.Floats.{fixedOf, identity}
+use Rattle.paper.specs.Floats.{pointsIn, fixedOf, cutOf, identity}
 use Rattle.paper.specs.TurnedAway.{sizeFault, inputFault, allPass, recordFault, readFrom, readList}
 use Rattle.paper.specs.Lines as lines
 use Rattle.paper.specs.Curves as curves
 use Rattle.paper.specs.Cells.{spotIn, marksBy, trail, penAfter, stored, cellsOf, storedBy, cellsBy, known, distinct}
 use Rattle.paper.specs.Bytes.{coverUpTo, areaAt, byteOf, painted}
 use Rattle.paper.specs.Drawing.{oneFull, fitting, firstOf, inked, drawRead, drawIn, draw}
-use Rattle.paper.specs.Placing.{boxFrom, boxOf, pointsIn, bounds, floor, placementOf, placement}
+use Rattle.paper.specs.Placing.{boxFrom, boxOf, bounds, floor, placementOf, placement}
 use Rattle.tables.specs.Lists.{−5, −1, n0, n0·25, n0·5, n1, n1·5, n2, n3, n3·25, n9, corners, label}
 use Rattle.tables.specs.Lists.{drawn, full, Draws, lies}
 
@@ -80,7 +80,7 @@ pub table : Table
 unfolding draw drawIn oneFull firstOf fitting drawRead inked painted byteOf coverUpTo areaAt distinct known cellsOf cellsBy
     stored storedBy trail penAfter marksBy flatten spotIn curves.quad curves.cubic curves.along curves.quadPoints curves.doublings curves.cubicPoints curves.curved
     lines.line lines.whole lines.walk lines.upright readList readFrom recordFault allPass inputFault sizeFault
-    fixedOf commandIn wrapped placement placementOf bounds pointsIn boxOf boxFrom floor ofBits add mul lt neg ofInt
+    fixedOf cutOf commandIn wrapped placement placementOf bounds pointsIn boxOf boxFrom floor ofBits add mul lt neg ofInt
 table = record {
   k1 = refl;
   k2 = refl;

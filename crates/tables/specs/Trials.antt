@@ -14,19 +14,19 @@ use Rattle.sweep.specs.declared.Fill.the-variants.{NonZero, EvenOdd}
 use Rattle.list.specs.Written.{move, line, quad, curve, close}
 use Rattle.paper.specs.Numbers.{wrapped}
 use Rattle.paper.specs.PathList.{commandIn}
-use Rattle.paper.specs.Floats.{fixedOf, identity, scale}
+use Rattle.paper.specs.Floats.{pointsIn, fixedOf, cutOf, identity, scale}
 use Rattle.paper.specs.TurnedAway.{sizeFault, inputFault, allPass, recordFault, readFrom, readList}
 use Rattle.paper.specs.Lines as lines
 use Rattle.paper.specs.Curves as curves
 use Rattle.paper.specs.Cells.{spotIn, marksBy, trail, penAfter, stored, cellsOf, storedBy, cellsBy, known, distinct}
 use Rattle.paper.specs.Bytes.{coverUpTo, areaAt, byteOf, painted}
 use Rattle.paper.specs.Drawing.{oneFull, fitting, firstOf, inked, drawRead, drawIn, draw, bandsFrom, drawInBands}
-use Rattle.paper.specs.Placing.{boxFrom, boxOf, pointsIn, bounds, floor, placementOf, placement}
-use Rattle.tables.specs.Lists.{−4096·004, −4096·0034, −4096, −4095, −2048, −9, −5, −4, −3, −2, −1, −0·5, n0}
-use Rattle.tables.specs.Lists.{−0, n0·25, n0·5, n0·75, n1, n1·5, n2, n2·5, n3, n3·25, n4, n5, n6, n7, n8, n9}
+use Rattle.paper.specs.Placing.{boxFrom, boxOf, bounds, floor, placementOf, placement}
+use Rattle.tables.specs.Lists.{−4096·004, −4096·0034, −4096, −4095, −2048, −9, −5, −4, −3, −2, −1, −0·5, −0·0039, −0·003, n0}
+use Rattle.tables.specs.Lists.{−0·002, −0, least, n0·002, n0·25, n0·5, n0·75, n1, n1·002, n1·5, n2, n2·5, n3, n3·25, n4, n5, n6, n7, n8, n9}
 use Rattle.tables.specs.Lists.{n2048, n4095, n4096, n4096·0034, n4096·004, n4097, huge, infinite, notNumber}
 use Rattle.tables.specs.Lists.{corners, rectangle, nulls, closes, affine, banded, label, under}
-use Rattle.tables.specs.Lists.{shiftedBy, drawn, full, turned, Draws, InBands, box, boxRefused, lies}
+use Rattle.tables.specs.Lists.{shiftedBy, drawn, drawnCut, full, turned, Draws, InBands, box, boxRefused, lies, liesCut}
 use Rattle.tables.specs.Lists.{placeRefused}
 
 abbrev hook : List ℕ  -- open, in one row: down in column 0, level into column 1
@@ -67,6 +67,15 @@ four-pixels =
     ++ corners n4095 n0 n4096 n0 n4096 n1 n4095 n1
     ++ corners n0 n4095 n1 n4095 n1 n4096 n0 n4096
     ++ corners n4095 n4095 n4096 n4095 n4096 n4096 n4095 n4096
+
+abbrev k1-mask : List ℕ
+k1-mask =
+    0 ∷ 0 ∷ 0 ∷ 0
+    ∷ 0 ∷ 255 ∷ 255 ∷ 0
+    ∷ 0 ∷ 0 ∷ 0 ∷ 0 ∷ []
+
+abbrev flat : Transform  -- sends every point to x = 0
+flat = affine n0 n0 n0 n1 n0 n0
 
 abbrev still : Transform  -- the identity with tx = ty = −0
 still = affine n1 n0 n0 n1 −0 −0
@@ -186,7 +195,7 @@ pub record Trials : Type 0 where
   pub far-y : Draws (label 1 1) (move n0 n0 ++ line n0 −4096·004) 1 40 (turned 12 1)
   pub far-left : Draws (label 1 1) (move n0 n0 ++ line −4096·004 n0) 1 40 (turned 12 1)
   pub far-below : Draws (label 1 1) (move n0 n0 ++ line n0 n4096·004) 1 40 (turned 12 1)
-  pub near-cut : Draws (label 1 1) (move n0 n0 ++ line n4096·0034 n0) 1 40 (drawn 2 1 (0 ∷ []))
+  pub near-cut : Draws (label 1 1) (move n0 n0 ++ line n4096·0034 n0) 1 40 (drawnCut 2 1 1 (0 ∷ []))
   -- a part that is no number, an infinite one
   pub nan-12 : Draws (label 1 1) (move n0 n0 ++ line n0 notNumber) 1 40 (turned 12 1)
   pub infinite-12 : Draws (label 1 1) (move infinite n0) 1 40 (turned 12 0)
@@ -219,6 +228,37 @@ pub record Trials : Type 0 where
       (0 ∷ 0 ∷ 0 ∷ 0
       ∷ 0 ∷ 255 ∷ 255 ∷ 0
       ∷ 0 ∷ 0 ∷ 0 ∷ 0 ∷ []))
+  -- ---- cut coordinates
+  -- K1 with the offset (1/512,0), with (0,1/512) and with (1/512,1/512): the picture is K1's
+  pub cut-x : Draws (shiftedBy n0·002 n0 (label 4 3)) rectangle 12 40 (drawnCut 5 2 4 k1-mask)
+  pub cut-y : Draws (shiftedBy n0 n0·002 (label 4 3)) rectangle 12 40 (drawnCut 5 2 4 k1-mask)
+  pub cut-both : Draws (shiftedBy n0·002 n0·002 (label 4 3)) rectangle 12 40 (drawnCut 5 2 8 k1-mask)
+  -- its first row, which sees none of the points, and no row
+  pub cut-unseen :
+      Draws (shiftedBy n0·002 n0·002 (banded NonZero false 4 3 4 0 1)) rectangle 4 40
+      (drawnCut 5 0 8 (0 ∷ 0 ∷ 0 ∷ 0 ∷ []))
+  pub cut-no-rows : Draws (shiftedBy n0·002 n0·002 (banded NonZero false 4 3 4 1 1)) rectangle 0 0 (drawnCut 5 0 8 [])
+  -- in bands of one row
+  pub cut-in-bands : InBands 1 (shiftedBy n0·002 n0·002 (label 4 3)) rectangle 12 11 (drawnCut 5 2 8 k1-mask)
+  -- (−0.003,−0.00390625); (−0, the least float above 0)
+  pub cut-one : Draws (label 1 1) (move −0·003 −0·0039) 1 5 (drawnCut 1 0 1 (0 ∷ []))
+  pub cut-least : Draws (label 1 1) (move −0 least) 1 5 (drawnCut 1 1 1 (0 ∷ []))
+  -- (1 + 1/512, 0), to which −1/512 is added; and with xx = 0, and doubled
+  pub cut-cancelled :
+      Draws (label 2 1) (move n1·002 n0) 2 5 (drawnCut 1 1 1 (0 ∷ 0 ∷ []))
+      × Draws (shiftedBy −0·002 n0 (label 2 1)) (move n1·002 n0) 2 5 (drawn 1 1 (0 ∷ 0 ∷ []))
+  pub cut-killed : Draws (under flat (label 1 1)) (move n1·002 n0) 1 5 (drawn 1 1 (0 ∷ []))
+  pub cut-doubled : Draws (under (scale (float n2) (float n1)) (label 3 1)) (move n1·002 n0) 3 5 (drawn 1 1 (0 ∷ 0 ∷ 0 ∷ []))
+  -- control points count, and a point that comes again counts again
+  pub cut-controls :
+      Draws (label 1 1) (move n0 n0 ++ quad n0·002 n0·002 n0 n0 ++ curve n0·002 n0 n0 n0·002 n0·002 n0·002) 1 5
+      (drawnCut 3 1 6 (0 ∷ []))
+  pub cut-again : Draws (label 1 1) (move n0·002 n0 ++ line n0·002 n0 ++ line n0·002 n0) 1 5 (drawnCut 3 1 3 (0 ∷ []))
+  -- refused, nothing is told: 12 behind a cut coordinate, and 13
+  pub cut-12 : Draws (label 1 1) (move n0·002 n0 ++ line n4096·004 n0) 1 5 (turned 12 1)
+  pub cut-13 : Draws (label 1 1) (move n0·002 n0) 1 1 (full 1)
+  -- the offset is no point of an empty list
+  pub cut-empty : Draws (shiftedBy n0·002 n0·002 (label 1 1)) [] 1 5 (drawn 0 0 (0 ∷ []))
   -- ---- subpaths
   -- a triangle left open is closed by the end, and by a MoveTo
   pub open-end : Draws (label 1 1) triangle 1 40 (drawn 3 1 (128 ∷ []))
@@ -493,7 +533,10 @@ pub record Trials : Type 0 where
   -- floats up to 4096.0034 pass
   pub place-farthest :
       placement TopLeft identity (at n0 n0) (move −4096·0034 −4096·0034 ++ line n4096·0034 n4096·0034)
-      ≡ lies n4097 n4097 (negsuc 4096) (negsuc 4096) 8194 8194
+      ≡ liesCut n4097 n4097 (negsuc 4096) (negsuc 4096) 8194 8194 4
+  -- K11's box with the offset (1/512,1/512), and an empty list with it
+  pub place-cut : placement TopLeft identity (at n0·002 n0·002) two-corners ≡ liesCut −0 −0 (pos 0) (pos 0) 4 3 4
+  pub place-cut-empty : placement TopLeft identity (at n0·002 n0·002) [] ≡ lies −0 −0 (pos 0) (pos 0) 1 1
   -- an empty list at (0.5,0.5): 1×1, the new offset is −0, −0; the top is 0, and 1 from the bottom left
   pub place-empty : placement TopLeft identity (at n0·5 n0·5) [] ≡ lies −0 −0 (pos 0) (pos 0) 1 1
   pub place-empty-up : placement BottomLeft identity (at n0·5 n0·5) [] ≡ lies −0 −0 (pos 0) (pos 1) 1 1
@@ -525,7 +568,7 @@ unfolding drawInBands bandsFrom
     draw drawIn oneFull firstOf fitting drawRead inked painted byteOf coverUpTo areaAt distinct known cellsOf cellsBy
     stored storedBy trail penAfter marksBy flatten spotIn curves.quad curves.cubic curves.along curves.quadPoints curves.doublings curves.cubicPoints curves.curved
     lines.line lines.whole lines.walk lines.upright readList readFrom recordFault allPass inputFault sizeFault
-    fixedOf commandIn wrapped placement placementOf bounds pointsIn boxOf boxFrom floor ofBits add mul lt neg ofInt
+    fixedOf cutOf commandIn wrapped placement placementOf bounds pointsIn boxOf boxFrom floor ofBits add mul lt neg ofInt
 trials = record {
   wide = refl;
   high = refl;
@@ -611,6 +654,22 @@ trials = record {
   empty-far = refl;
   placed = refl;
   quarter = refl;
+  cut-x = refl;
+  cut-y = refl;
+  cut-both = refl;
+  cut-unseen = refl;
+  cut-no-rows = refl;
+  cut-in-bands = refl;
+  cut-one = refl;
+  cut-least = refl;
+  cut-cancelled = (refl, refl);
+  cut-killed = refl;
+  cut-doubled = refl;
+  cut-controls = refl;
+  cut-again = refl;
+  cut-12 = refl;
+  cut-13 = refl;
+  cut-empty = refl;
   open-end = refl;
   open-move = refl;
   closed-move = refl;
@@ -717,6 +776,8 @@ trials = record {
   place-whole = refl;
   place-left = refl;
   place-farthest = refl;
+  place-cut = refl;
+  place-cut-empty = refl;
   place-empty = refl;
   place-empty-up = refl;
   place-empty-far = refl;

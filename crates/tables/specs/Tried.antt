@@ -9,7 +9,7 @@ use lib.ListN.{replicate}
 use Rattle.label.specs.declared.Label.{Label}
 use Rattle.paper.specs.Numbers.{wrapped}
 use Rattle.paper.specs.PathList.{commandIn}
-use Rattle.paper.specs.Floats.{fixedOf}
+use Rattle.paper.specs.Floats.{pointsIn, fixedOf, cutOf}
 use Rattle.paper.specs.TurnedAway.{sizeFault, inputFault, allPass, recordFault, readFrom, readList}
 use Rattle.paper.specs.Lines as lines
 use Rattle.paper.specs.Cells.{spotIn, marksBy, trail, penAfter, stored, cellsOf, known, distinct}
@@ -32,7 +32,7 @@ pub record Tried : Type 0 where
   pub premise : number (draw (whole k1) rectangle (replicate 12 7) (replicate 40 9)) ≡ 0
   pub longEnough : LongEnough (band k1 1 2) (replicate 4 7)
   pub alone : draw (band k1 1 2) rectangle (replicate 4 7) (replicate 40 9)
-      ≡ accepted 5 2 (0 ∷ 255 ∷ 255 ∷ 0 ∷ []) (replicate 40 0)
+      ≡ accepted 5 2 0 (0 ∷ 255 ∷ 255 ∷ 0 ∷ []) (replicate 40 0)
   pub cut : Partition k1 40 0 pieces
   pub together : cellsOver k1 rectangle 0 pieces ≡ 2
 
@@ -40,7 +40,7 @@ pub tried : Tried
 unfolding
     Partition cellsOver draw drawIn oneFull drawRead inked painted byteOf coverUpTo areaAt distinct known cellsOf stored
     trail penAfter marksBy flatten spotIn lines.line lines.whole lines.walk lines.upright readList readFrom recordFault allPass inputFault
-    sizeFault fixedOf commandIn wrapped ofBits add mul lt neg ofInt
+    sizeFault pointsIn fixedOf cutOf commandIn wrapped ofBits add mul lt neg ofInt
 tried = record {
   premise = refl;
   longEnough = λ h. omega arith;

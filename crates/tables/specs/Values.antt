@@ -16,7 +16,7 @@ use Rattle.paper.specs.Numbers.{_/_, wrapped}
 use Rattle.paper.specs.Steps.{mostDoublings, mostSplits}
 use Rattle.paper.specs.PathList.{four, lengthOf, commandIn}
 use Rattle.paper.specs.Floats.{Spot, moved, shifted, combine, thenTranslate, translation, scale, identity}
-use Rattle.paper.specs.Floats.{fixedOf, near, passes, cell, fraction}
+use Rattle.paper.specs.Floats.{pointsIn, fixedOf, isCut, cutOf, cutIn, near, passes, cell, fraction}
 use Rattle.paper.specs.TurnedAway.{inputFault, afterClose, draws}
 use Rattle.paper.specs.Lines as lines
 use Rattle.paper.specs.Lines.{enter, give}
@@ -26,7 +26,7 @@ use Rattle.paper.specs.Bytes.{coverUpTo, areaAt, value, byteOf}
 use Rattle.paper.specs.Drawing.{pool, fitting, bandsFrom}
 use Rattle.paper.specs.Placing.{floor, ceil}
 use Rattle.tables.specs.Lists.{−4096·004, −4096, −3, −1·0005, −1, −0·999, −0·5, −0·0039, −0·003, n0}
-use Rattle.tables.specs.Lists.{−0, n0·0001, n0·5, n0·999, n1, n1·0002, n1·5, n2, n3, n4, n5, n6, n7, n8, n9}
+use Rattle.tables.specs.Lists.{−0·002, −0, least, n0·0001, n0·5, n0·999, n1, n1·0002, n1·002, n1·5, n2, n3, n4, n5, n6, n7, n8, n9}
 use Rattle.tables.specs.Lists.{n10, n11, n12, n13, n14, n17, n19, n31, n39, n46, n58, n94, n117, n140}
 use Rattle.tables.specs.Lists.{n197, n2048, n4096, n4096·0034, n4096·004, n16777216, infinite, notNumber}
 use Rattle.tables.specs.Lists.{affine, banded, label, under, shiftedBy}
@@ -147,6 +147,24 @@ pub record Values : Type 0 where
       (fixedOf (float n4096) ≡ pos 1048576) × (fixedOf (float n4096·004) ≡ pos 1048577)
       × (fixedOf (float −0·003) ≡ pos 0) × (fixedOf (float −0·0039) ≡ below 1)
       × (fixedOf (float n0·999) ≡ pos 255) × (fixedOf (float −0·999) ≡ below 255) × (fixedOf (float −0) ≡ pos 0)
+  -- whether anything is: −0.003, ±0.999, 4096.0034 and the least float; not 0.5, −0.00390625, 4096, −0
+  pub cut-off :
+      (isCut (float −0·003) ≡ true) × (isCut (float n0·999) ≡ true) × (isCut (float −0·999) ≡ true)
+      × (isCut (float n4096·0034) ≡ true) × (isCut (float least) ≡ true)
+  pub not-cut :
+      (isCut (float n0·5) ≡ false) × (isCut (float −0·0039) ≡ false) × (isCut (float n4096) ≡ false)
+      × (isCut (float −0) ≡ false)
+  -- x and y apart, in each point
+  pub cut-parts :
+      (cutOf (at −0·003 −0·0039 ∷ []) ≡ 1) × (cutOf (at −0·0039 −0·003 ∷ []) ≡ 1)
+      × (cutOf (at −0 least ∷ at n0·999 −0·999 ∷ at n0·5 n1 ∷ []) ≡ 3)
+  -- of a path: MoveTo, LineTo and Close, each control point, with transform and offset
+  pub cut-path :
+      (cutIn identity (at n0 n0) (MoveTo (at least n0) ∷ LineTo (at n0 least) ∷ Close ∷ []) ≡ 2)
+      × (cutIn identity (at n0 n0) (QuadTo (at least n0) (at least least) ∷ []) ≡ 3)
+      × (cutIn identity (at n0 n0) (CurveTo (at least n0) (at least least) (at n0 least) ∷ []) ≡ 4)
+      × (cutIn identity (at −0·002 n0) (MoveTo (at n1·002 n1·002) ∷ []) ≡ 1)
+      × (cutIn (scale (float n2) (float n1)) (at n0 n0) (MoveTo (at n1·002 n1·002) ∷ []) ≡ 1)
   -- within 4,096 pixels
   pub near-4096 :
       (near (float n4096) ≡ true) × (near (float n4096·0034) ≡ true) × (near (float n4096·004) ≡ false)
@@ -445,7 +463,7 @@ pub record Values : Type 0 where
       × (ceil (float −3) ≡ below 3) × (ceil (float n0) ≡ pos 0) × (ceil (float −0) ≡ pos 0)
 
 pub values : Values
-unfolding wrapped commandIn inputFault fixedOf lines.whole lines.walk lines.upright lines.line curves.doublings
+unfolding wrapped commandIn inputFault pointsIn fixedOf cutOf lines.whole lines.walk lines.upright lines.line curves.doublings
     curves.quadPoints curves.curved curves.cubicPoints curves.along curves.quad curves.cubic stored storedBy trail penAfter marksBy
     flatten spotIn cellsOf cellsBy fitting distinct known coverUpTo areaAt byteOf bandsFrom floor ofBits add mul neg
 values = record {
@@ -476,6 +494,10 @@ values = record {
   the-identity = refl;
   flipped = refl;
   cut = (refl, refl, refl, refl, refl, refl, refl);
+  cut-off = (refl, refl, refl, refl, refl);
+  not-cut = (refl, refl, refl, refl);
+  cut-parts = (refl, refl, refl);
+  cut-path = (refl, refl, refl, refl, refl);
   near-4096 = (refl, refl, refl, refl, refl, refl, refl);
   both-near = (refl, refl, refl);
   cells = (refl, refl, refl, refl, refl, refl);

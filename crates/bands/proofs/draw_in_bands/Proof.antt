@@ -33,8 +33,8 @@ judge-requires c κs =
 enum-known-why-2 : tie.Need-enum-known-why-2
 enum-known-why-2 c = search needs
 
-enum-known-n : tie.Need-enum-known-n
-enum-known-n c = search needs
+enum-known-count : tie.Need-enum-known-count
+enum-known-count c = search needs
 
 rows-of-requires : tie.Need-rows-of-requires
 rows-of-requires c κs = search needs
@@ -74,7 +74,7 @@ returns-3 c =
     let j = n .before .before in
     let e = j .before in
     promised _ _ _ _ _ _
-    (drawn _ _ _ _ _ (sym (e .before .before .check .ensures) ∙ e .enum-told .given .1) _ _ (sym (j .judge .ensures) ∙ n .n .given .1) (rw (r .rows-of .ensures) at (i .ink .ensures)))
+    (drawn _ _ _ _ _ (sym (e .before .before .check .ensures) ∙ e .enum-told .given .1) _ _ _ (sym (j .judge .ensures) ∙ n .count .given .1) (rw (r .rows-of .ensures) at (i .ink .ensures)))
 
 pub draw-in-bands-spec : {M : Type 1} → statement M
 draw-in-bands-spec =
@@ -85,7 +85,7 @@ draw-in-bands-spec =
     enum-told
     judge-requires
     enum-known-why-2
-    enum-known-n
+    enum-known-count
     rows-of-requires
     ink-requires
     returns

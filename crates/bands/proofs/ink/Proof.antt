@@ -21,8 +21,8 @@ enum-known-i c = search needs
 wipe-requires : tie.Need-wipe-requires
 wipe-requires c κs = search needs
 
-cast-t17 : tie.Need-cast-t17
-cast-t17 c =
+cast-t18 : tie.Need-cast-t18
+cast-t18 c =
     let i = c .before .before .before .before .before in
     let k = i .before .before .before .before in
     let a = k .before .before .before .before .before in
@@ -41,8 +41,8 @@ paint-requires c κs =
 wipe-requires-2 : tie.Need-wipe-requires-2
 wipe-requires-2 c κs = search needs
 
-cast-t25 : tie.Need-cast-t25
-cast-t25 c =
+cast-t26 : tie.Need-cast-t26
+cast-t26 c =
     let n = c .before .before .before .before .before .before .before .before .before .before .before .before in
     let k = n .before .before .before .before in
     let h = k .count .ensures .few _ (n .n .given .1) in
@@ -58,7 +58,7 @@ returns c =
     let k = i .before .before .before .before in
     let a = k .before .before .before .before .before in
     let same : length (k .count .last .1 .1 .1 .0) ≡ length (a .args .words .now) = omega (arith, k .count .kept) in
-    inked-full _ _ _ _ _ _ (k .count .last .1 .1 .1 .0) _ (w .wipe .ensures) same _ _ (i .i .given .1) (k .count .ensures)
+    inked-full _ _ _ _ _ _ _ (k .count .last .1 .1 .1 .0) _ (w .wipe .ensures) same _ _ (i .i .given .1) (k .count .ensures)
 
 same-length-2 : tie.Need-same-length-2
 same-length-2 c = search needs
@@ -75,7 +75,7 @@ returns-2 c =
     let a = k .before .before .before .before .before in
     let same : length (k .count .last .1 .1 .1 .0) ≡ length (a .args .words .now) = omega (arith, k .count .kept) in
     let again : length (p .paint .last .1 .1 .1 .1 .0) ≡ length (a .args .words .now) = omega (arith, p .paint .kept, same) in
-    inked-cells _ _ _ _ _ _ (p .paint .last .1 .1 .1 .1 .0) _ _ (w .wipe2 .ensures) again _ _ (n .n .given .1) (k .count .ensures) (rw same at (p .paint .ensures))
+    inked-cells _ _ _ _ _ _ _ (p .paint .last .1 .1 .1 .1 .0) _ _ (w .wipe2 .ensures) again _ _ (n .n .given .1) (k .count .ensures) (rw same at (p .paint .ensures))
 
 pub ink-spec : {M : Type 1} → statement M
 ink-spec =
@@ -84,11 +84,11 @@ ink-spec =
     count-requires
     enum-known-i
     wipe-requires
-    cast-t17
+    cast-t18
     enum-known-n
     paint-requires
     wipe-requires-2
-    cast-t25
+    cast-t26
     same-length
     returns
     same-length-2

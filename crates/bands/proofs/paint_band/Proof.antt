@@ -28,7 +28,7 @@ sweep-requires c κs =
     let n = c .before .before .before in
     let p = n .before .before .before .before in
     let a = p .before .before .before .before .before .before in
-    sweeps (a .args .b) (a .pre .0) 0 _ _ _ _ _ _ (n .n .given .1) (p .pour .ensures) (a .pre .1)
+    sweeps (a .args .b) (a .pre .0) _ _ _ _ _ _ (n .n .given .1) (p .pour .ensures) (a .pre .1)
 
 same-length : tie.Need-same-length
 same-length c = search needs

@@ -33,8 +33,8 @@ judge-requires c κs =
 enum-known-why-2 : tie.Need-enum-known-why-2
 enum-known-why-2 c = search needs
 
-enum-known-n : tie.Need-enum-known-n
-enum-known-n c = search needs
+enum-known-records : tie.Need-enum-known-records
+enum-known-records c = search needs
 
 pour-requires : tie.Need-pour-requires
 pour-requires c κs =
@@ -50,8 +50,8 @@ enum-known-i c = search needs
 wipe-requires : tie.Need-wipe-requires
 wipe-requires c κs = search needs
 
-cast-t25 : tie.Need-cast-t25
-cast-t25 c =
+cast-t26 : tie.Need-cast-t26
+cast-t26 c =
     let i = c .before .before .before .before .before in
     let p = i .before .before .before .before in
     let e = p .before .before .before .before .before .before in
@@ -66,8 +66,8 @@ cast-t25 c =
 enum-known-count : tie.Need-enum-known-count
 enum-known-count c = search needs
 
-cast-t26 : tie.Need-cast-t26
-cast-t26 c =
+cast-t27 : tie.Need-cast-t27
+cast-t27 c =
     let n = c .before in
     let p = n .before .before .before .before in
     let e = p .before .before .before .before .before .before in
@@ -101,7 +101,7 @@ returns-3 c =
     let a = k .before .before .before in
     let q = sym (k .check .ensures) ∙ e .enum-told .given .1 in
     let f = fitting (a .args .l) (length (a .args .list .now)) (a .args .mask) (length (a .args .words .now)) q in
-    celled-full _ _ _ _ q (f .sized) _ (sym (j .judge .ensures) ∙ n .n .given .1) _ _ (p .pour .ensures) _ (i .i .given .1) _ (w .wipe .ensures)
+    celled-full _ _ _ _ q (f .sized) _ _ (sym (j .judge .ensures) ∙ n .records .given .1) _ _ (p .pour .ensures) _ (i .i .given .1) _ (w .wipe .ensures)
 
 same-length-2 : tie.Need-same-length-2
 same-length-2 c = search needs
@@ -116,7 +116,7 @@ returns-4 c =
     let a = k .before .before .before in
     let q = sym (k .check .ensures) ∙ e .enum-told .given .1 in
     let f = fitting (a .args .l) (length (a .args .list .now)) (a .args .mask) (length (a .args .words .now)) q in
-    celled-cells _ _ _ _ q (f .sized) _ (sym (j .judge .ensures) ∙ n .n .given .1) _ _ (p .pour .ensures) _ (c .before .count .given .1)
+    celled-cells _ _ _ _ q (f .sized) _ _ (sym (j .judge .ensures) ∙ n .records .given .1) _ _ (p .pour .ensures) _ (c .before .count .given .1)
 
 pub cells-spec : {M : Type 1} → statement M
 cells-spec =
@@ -127,13 +127,13 @@ cells-spec =
     enum-told
     judge-requires
     enum-known-why-2
-    enum-known-n
+    enum-known-records
     pour-requires
     enum-known-i
     wipe-requires
-    cast-t25
-    enum-known-count
     cast-t26
+    enum-known-count
+    cast-t27
     returns
     returns-2
     same-length

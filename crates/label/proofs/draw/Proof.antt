@@ -30,8 +30,8 @@ judge-requires c κs =
 enum-known-why-2 : tie.Need-enum-known-why-2
 enum-known-why-2 c = search needs
 
-enum-known-n : tie.Need-enum-known-n
-enum-known-n c = search needs
+enum-known-count : tie.Need-enum-known-count
+enum-known-count c = search needs
 
 ink-requires : tie.Need-ink-requires
 ink-requires c κs =
@@ -65,7 +65,7 @@ returns-3 c =
     let n = i .before .before .before .before in
     let j = n .before .before in
     let e = j .before in
-    drawn _ _ _ _ _ (sym (e .before .before .check .ensures) ∙ e .enum-told .given .1) _ _ (sym (j .judge .ensures) ∙ n .n .given .1) (i .ink .ensures) ∙ draw-is _ _ _ _
+    drawn _ _ _ _ _ (sym (e .before .before .check .ensures) ∙ e .enum-told .given .1) _ _ _ (sym (j .judge .ensures) ∙ n .count .given .1) (i .ink .ensures) ∙ draw-is _ _ _ _
 
 pub draw-spec : {M : Type 1} → statement M
 draw-spec =
@@ -76,7 +76,7 @@ draw-spec =
     enum-told
     judge-requires
     enum-known-why-2
-    enum-known-n
+    enum-known-count
     ink-requires
     returns
     returns-2

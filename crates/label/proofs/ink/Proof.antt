@@ -24,8 +24,8 @@ enum-known-i c = search needs
 wipe-requires : tie.Need-wipe-requires
 wipe-requires c κs = search needs
 
-cast-t18 : tie.Need-cast-t18
-cast-t18 c =
+cast-t19 : tie.Need-cast-t19
+cast-t19 c =
     let i = c .before .before .before .before .before in
     let p = i .before .before .before .before in
     let a = p .before .before .before .before .before .before in
@@ -40,13 +40,13 @@ sweep-requires c κs =
     let n = c .before .before .before in
     let p = n .before .before .before .before in
     let a = p .before .before .before .before .before .before in
-    sweeps (a .args .l) (a .pre .0) 0 _ _ _ _ _ _ (n .n .given .1) (p .pour .ensures) (a .pre .1 .0)
+    sweeps (a .args .l) (a .pre .0) _ _ _ _ _ _ (n .n .given .1) (p .pour .ensures) (a .pre .1 .0)
 
 wipe-requires-2 : tie.Need-wipe-requires-2
 wipe-requires-2 c κs = search needs
 
-cast-t26 : tie.Need-cast-t26
-cast-t26 c =
+cast-t27 : tie.Need-cast-t27
+cast-t27 c =
     let n = c .before .before .before .before .before .before .before .before .before .before in
     let p = n .before .before .before .before in
     let a = p .before .before .before .before .before .before in
@@ -62,7 +62,7 @@ returns c =
     let i = w .before .before .before in
     let p = i .before .before .before .before in
     let a = p .before .before .before .before .before .before in
-    inked-full (a .args .l) (a .pre .0) _ _ _ _ _ _ _ (i .i .given .1) (p .pour .ensures) _ (w .wipe .ensures)
+    inked-full (a .args .l) (a .pre .0) _ _ _ _ _ _ _ _ (i .i .given .1) (p .pour .ensures) _ (w .wipe .ensures)
 
 same-length-2 : tie.Need-same-length-2
 same-length-2 c = search needs
@@ -77,7 +77,7 @@ returns-2 c =
     let n = c .before .before .before .before .before .before .before .before .before .before in
     let p = n .before .before .before .before in
     let a = p .before .before .before .before .before .before in
-    inked-cells (a .args .l) (a .pre .0) _ _ _ _ _ _ _ (n .n .given .1) (p .pour .ensures) _ (s .sweep .ensures) _ (w .wipe2 .ensures)
+    inked-cells (a .args .l) (a .pre .0) _ _ _ _ _ _ _ _ (n .n .given .1) (p .pour .ensures) _ (s .sweep .ensures) _ (w .wipe2 .ensures)
 
 pub ink-spec : {M : Type 1} → statement M
 ink-spec =
@@ -87,11 +87,11 @@ ink-spec =
     pour-requires
     enum-known-i
     wipe-requires
-    cast-t18
+    cast-t19
     enum-known-n
     sweep-requires
     wipe-requires-2
-    cast-t26
+    cast-t27
     same-length
     returns
     same-length-2

@@ -23,7 +23,7 @@ enum-known-why c = search needs
 returns : tie.Need-returns
 returns c =
     let j = c .before .before .before in
-    boxed-at _ _ _ _ (rw (j .before .zero-point .ensures) at (sym (c .before .enum-told .given .1) ∙ j .judge-inputs .ensures)) (c .box-list .ensures)
+    boxed-at _ _ _ _ _ (rw (j .before .zero-point .ensures) at (sym (c .before .enum-told .given .1) ∙ j .judge-inputs .ensures)) (c .box-list .ensures)
 
 returns-2 : tie.Need-returns-2
 returns-2 c =

@@ -15,7 +15,7 @@ enum-told : tie.Need-enum-told
 enum-told c = search needs
 
 returns : tie.Need-returns
-returns c = lays _ _ _ (c .before .before .before .before .pre) _ _ (sym (c .before .before .before .compute .ensures) ∙ c .before .offset .given .1)
+returns c = lays _ _ _ (c .before .before .before .before .pre) _ _ _ (sym (c .before .before .before .compute .ensures) ∙ c .before .offset .given .1)
 
 returns-2 : tie.Need-returns-2
 returns-2 c =

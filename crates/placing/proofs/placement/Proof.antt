@@ -10,8 +10,8 @@ use Rattle.placing.proofs.placement.Tie as tie
 judge-inputs-requires : tie.Need-judge-inputs-requires
 judge-inputs-requires c κs = search needs
 
-enum-known-n : tie.Need-enum-known-n
-enum-known-n c = search needs
+enum-known-count : tie.Need-enum-known-count
+enum-known-count c = search needs
 
 offset-passes-requires : tie.Need-offset-passes-requires
 offset-passes-requires c κs = search needs
@@ -19,7 +19,7 @@ offset-passes-requires c κs = search needs
 returns : tie.Need-returns
 returns c =
     let n = c .before .before .before .before in
-    offset-refused _ _ _ _ _ (sym (n .n .given .1) ∙ n .before .before .judge-inputs .ensures) (c .before .before .if1 .taken)
+    offset-refused _ _ _ _ _ _ (sym (n .count .given .1) ∙ n .before .before .judge-inputs .ensures) (c .before .before .if1 .taken)
     (sym (c .before .offset-passes .ensures) ∙ not-true _ (c .if2 .taken))
 
 box-list-requires : tie.Need-box-list-requires
@@ -29,7 +29,7 @@ lay-requires : tie.Need-lay-requires
 lay-requires c κs =
     let i = c .before in
     let n = i .before .before in
-    box-lies _ _ _ (n .n .given .0 .0) (sym (n .n .given .1) ∙ n .before .before .judge-inputs .ensures)
+    box-lies _ _ _ (n .count .given .0 .0) _ (sym (n .count .given .1) ∙ n .before .before .judge-inputs .ensures)
     (⊎-elim (λ w. offset-passed _ _ (sym (w .1 .ensures) ∙ not-false _ (w .2 .left))) (λ w. some-records _ _ (w .left)) (i .if1 .came))
     _ (c .box-list .ensures)
 
@@ -41,7 +41,7 @@ returns-2 c =
     let b = c .before in
     let i = b .before in
     let n = i .before .before in
-    c .lay .ensures ∙ laid-at _ _ _ _ (n .n .given .0 .0) (sym (n .n .given .1) ∙ n .before .before .judge-inputs .ensures)
+    c .lay .ensures ∙ laid-at _ _ _ _ (n .count .given .0 .0) _ (sym (n .count .given .1) ∙ n .before .before .judge-inputs .ensures)
     (⊎-elim (λ w. offset-passed _ _ (sym (w .1 .ensures) ∙ not-false _ (w .2 .left))) (λ w. some-records _ _ (w .left)) (i .if1 .came))
     _ (b .box-list .ensures)
 
@@ -55,7 +55,7 @@ placement-spec =
     tie.close
     (tie.spec
     judge-inputs-requires
-    enum-known-n
+    enum-known-count
     offset-passes-requires
     returns
     box-list-requires
