@@ -48,6 +48,21 @@
  * the point rule. Coordinates count pixels: pixel (0, 0) is the square from (0,0) to (1,1).
  *
  *
+ * Off the grid
+ * ------------
+ * A label is drawn on a grid of 1/256 of a pixel. A coordinate, transformed and moved, is cut where
+ * it times 256 is no whole number: 0.1 and the smallest float above 0 are, 0.5, 1.00390625 and -0.0
+ * are not. An edge at 2.9999, meant for 3, then falls short of that and shows soft. So an accepted
+ * drawing or placement tells in `cut` how many coordinates were cut; 0 says that the step to the
+ * grid changed nothing.
+ *
+ * x and y count apart, control points too, and a point as often as the list has it. The number is
+ * the whole list's, with this transform and this offset: the same for every band of a label, also
+ * for one of no rows, by mz_draw_in_bands with any step and by mz_placement. It is 0 with a refusal
+ * and for an empty list, of which the offset is no point. No list has more than 14042 coordinates.
+ * (MZ_CUT is another thing: a record that the end of the list cuts.)
+ *
+ *
  * Refusals
  * --------
  * Every call that takes a list answers with a number, 0 or a refusal's, and an index: for 8 to 13
@@ -122,11 +137,14 @@
 extern "C" {
 #endif
 
-/* The version of this face. */
+/*
+ * The version of this face. In 0.6.0 MzDrawn and MzPlacement have become longer, by `cut`: what was
+ * compiled with an older header must be compiled anew.
+ */
 #define MZ_VERSION_MAJOR 0
-#define MZ_VERSION_MINOR 5
+#define MZ_VERSION_MINOR 6
 #define MZ_VERSION_PATCH 0
-#define MZ_VERSION "0.5.0"
+#define MZ_VERSION "0.6.0"
 
 /* The largest width and height, in pixels. */
 #define MZ_MOST_SIDE 4096
@@ -268,6 +286,7 @@ typedef struct MzDrawn {
     uint32_t index;   /* the record's index, where the number names one, else 0 */
     uint32_t records; /* how many records the list has; 0 with a refusal */
     uint32_t cells;   /* how many distinct places the drawing stored; 0 with a refusal */
+    uint32_t cut;     /* how many coordinates of the list were cut; 0 with a refusal */
 } MzDrawn;
 
 /* A box of points; all four parts are 0 with a refusal. */
@@ -290,6 +309,7 @@ typedef struct MzPlacement {
     int32_t top;     /* where its top belongs */
     uint32_t width;  /* the mask's size, in pixels */
     uint32_t height;
+    uint32_t cut;    /* how many coordinates of the list are cut with the offset that was given */
 } MzPlacement;
 
 /*
@@ -334,9 +354,9 @@ MzDrawn mz_draw(const uint8_t *list, size_t list_len, MzLabel label, uint8_t *ma
  * more distinct places than its pool holds; then the mask is unchanged, whichever band it is.
  * The index is the one that mz_draw, lent these words, gives for that band by itself; of several
  * such bands the first counts, in rising rows (up too), even if another is full at an earlier
- * record. What each number leaves in mask and words is as for mz_draw. Accepted, mask, records and
- * cells are those of the rows drawn at once; so whatever mz_draw accepts gives the same here, with
- * any step.
+ * record. What each number leaves in mask and words is as for mz_draw. Accepted, mask, records,
+ * cells and cut are those of the rows drawn at once; so whatever mz_draw accepts gives the same
+ * here, with any step.
  */
 MzDrawn mz_draw_in_bands(const uint8_t *list, size_t list_len, MzLabel label, size_t step,
                          uint8_t *mask, size_t mask_len, uint32_t *words, size_t words_len);
@@ -449,11 +469,12 @@ MZ_STANDS_AT(MzLabel, pitch, 56, 8);
 MZ_STANDS_AT(MzLabel, first, 64, 8);
 MZ_STANDS_AT(MzLabel, end, 72, 8);
 
-MZ_HAS_SIZE(MzDrawn, 16);
+MZ_HAS_SIZE(MzDrawn, 20);
 MZ_STANDS_AT(MzDrawn, number, 0, 4);
 MZ_STANDS_AT(MzDrawn, index, 4, 4);
 MZ_STANDS_AT(MzDrawn, records, 8, 4);
 MZ_STANDS_AT(MzDrawn, cells, 12, 4);
+MZ_STANDS_AT(MzDrawn, cut, 16, 4);
 
 MZ_HAS_SIZE(MzBounds, 24);
 MZ_STANDS_AT(MzBounds, number, 0, 4);
@@ -463,7 +484,7 @@ MZ_STANDS_AT(MzBounds, min_y, 12, 4);
 MZ_STANDS_AT(MzBounds, max_x, 16, 4);
 MZ_STANDS_AT(MzBounds, max_y, 20, 4);
 
-MZ_HAS_SIZE(MzPlacement, 32);
+MZ_HAS_SIZE(MzPlacement, 36);
 MZ_STANDS_AT(MzPlacement, number, 0, 4);
 MZ_STANDS_AT(MzPlacement, index, 4, 4);
 MZ_STANDS_AT(MzPlacement, offset_x, 8, 4);
@@ -472,6 +493,7 @@ MZ_STANDS_AT(MzPlacement, left, 16, 4);
 MZ_STANDS_AT(MzPlacement, top, 20, 4);
 MZ_STANDS_AT(MzPlacement, width, 24, 4);
 MZ_STANDS_AT(MzPlacement, height, 28, 4);
+MZ_STANDS_AT(MzPlacement, cut, 32, 4);
 
 #undef MZ_HAS_SIZE
 #undef MZ_SIZE_OF

@@ -40,10 +40,13 @@ int main(int argc, char **argv) {
     size_t list_len = fread(list, 1, sizeof list, in);
     fclose(in);
     MzLabel label = mz_label(strtoul(argv[3], NULL, 10), strtoul(argv[4], NULL, 10));
-    MzDrawn drawn = draw_rows(label, list_len, 0, 0); /* no rows: judges, and draws nothing */
+    MzDrawn drawn = draw_rows(label, list_len, 0, 0); /* no rows: judges and counts */
     if (drawn.number != MZ_ACCEPTED) {
         tell(drawn);
         return 1;
+    }
+    if (drawn.cut != 0) {
+        fprintf(stderr, "example: coordinates off the 1/256 grid: %u\n", (unsigned)drawn.cut);
     }
     FILE *out = fopen(argv[2], "wb");
     bool written = out != NULL && fprintf(out, "P5\n%zu %zu\n255\n", label.width, label.height) > 0;

@@ -75,10 +75,15 @@ static List rectangle(void) { return rectangle_of(1, 1, 3, 2); }
 /* How many floats a record of each kind has; there is no kind 0. */
 static const unsigned floats_of[] = {0, 2, 2, 4, 6, 0};
 
-/* A record of this kind, of whose floats one is `far` and the others are 0. */
-static void put_record(List *list, unsigned kind, unsigned far_one, float far) {
+/* A record's length and kind. */
+static void put_header(List *list, unsigned kind) {
     put_u16(list, 2 + 4 * floats_of[kind]);
     put_u16(list, kind);
+}
+
+/* A record of this kind, of whose floats one is `far` and the others are 0. */
+static void put_record(List *list, unsigned kind, unsigned far_one, float far) {
+    put_header(list, kind);
     for (unsigned at = 0; at < floats_of[kind]; at += 1) {
         put_float(list, at == far_one ? far : 0);
     }
@@ -101,6 +106,37 @@ static List list_of(const char *letters) {
     for (; *letters != '\0'; letters += 1) {
         unsigned at = (unsigned)(strchr(kinds, *letters) - kinds);
         put_record(&list, 1 + at % 5, 0, at < 5 ? 0 : NAN);
+    }
+    return list;
+}
+
+static float float_at(const List *list, size_t at) {
+    const uint8_t *bytes = list->bytes + at;
+    uint32_t bits = bytes[0] + 256u * bytes[1] + 65536u * bytes[2] + 16777216u * bytes[3];
+    float part;
+    memcpy(&part, &bits, sizeof part);
+    return part;
+}
+
+/* A number below `sides`, the same in each run. */
+static unsigned dice(uint32_t *state, unsigned sides) {
+    *state = *state * 1664525u + 1013904223u;
+    return (*state >> 16) % sides;
+}
+
+/*
+ * Up to 13 records of any kind that may stand there, with coordinates from -8 to 8 in halves of
+ * 1/256: one of two lies off the grid.
+ */
+static List list_by_dice(uint32_t *state) {
+    List list = empty_list();
+    unsigned kind = 5;
+    for (unsigned more = dice(state, 13) + 1; more > 0; more -= 1) {
+        kind = kind == 5 ? 1 : 1 + dice(state, 5);
+        put_header(&list, kind);
+        for (unsigned at = 0; at < floats_of[kind]; at += 1) {
+            put_float(&list, ((float)dice(state, 8193) - 4096) / 512);
+        }
     }
     return list;
 }

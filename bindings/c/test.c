@@ -1,9 +1,9 @@
 /*
  * The C face, called as a C or a C++ program calls it: a worked label that zeno drew, at once and
  * in bands; worked transforms; K1, K8, K11, K12 and every refusal of the rules (docs/RULES.md), 13
- * with every room that is too small, 18 with every short list; what the header says besides its
- * functions. Takes the folder ../worked as its argument. Prints what differs; exits non-zero if
- * anything does. `run` builds it both ways.
+ * with every room that is too small, 18 with every short list; how many coordinates are cut, in
+ * every band; what the header says besides its functions. Takes the folder ../worked as its
+ * argument. Prints what differs; exits non-zero if anything does. `run` builds it both ways.
  */
 
 #include "lists.h"
@@ -70,9 +70,36 @@ static MzDrawn draw_in_bands(Call *c, size_t step) {
                             c->words_len);
 }
 
-static bool answers(MzDrawn drawn, uint32_t records, uint32_t cells) {
+static bool counts(MzDrawn drawn, uint32_t records, uint32_t cells, uint32_t cut) {
     return drawn.number == MZ_ACCEPTED && drawn.index == 0 && drawn.records == records &&
-           drawn.cells == cells;
+           drawn.cells == cells && drawn.cut == cut;
+}
+
+/* The same of a list on the grid. */
+static bool answers(MzDrawn drawn, uint32_t records, uint32_t cells) {
+    return counts(drawn, records, cells, 0);
+}
+
+/* Whether the 256ths of a coordinate, which a double holds, are no whole number. */
+static bool off_grid(float part) {
+    double parts = (double)part * 256;
+    return parts != (double)(long long)parts;
+}
+
+/* How many coordinates of an accepted list are cut, by the rules. */
+static uint32_t ruled_cut(const List *list, MzLabel label) {
+    uint32_t cut = 0;
+    for (size_t at = 0; at < list->len;) {
+        size_t end = at + 4 + 4 * floats_of[list->bytes[at + 2]];
+        for (at += 4; at < end; at += 8) {
+            float x = float_at(list, at);
+            float y = float_at(list, at + 4);
+            MzPoint moved = mz_transform_point(label.transform, x, y);
+            cut += off_grid(moved.x + label.offset_x);
+            cut += off_grid(moved.y + label.offset_y);
+        }
+    }
+    return cut;
 }
 
 /* Whether the lent words are 0 and the others are old. */
@@ -103,7 +130,7 @@ static void check_refusal(const Call *before, const Call *after, MzDrawn drawn, 
     snprintf(what, sizeof what, "refusal %u with index %u: answered with %u and %u",
              (unsigned)number, (unsigned)index, (unsigned)drawn.number, (unsigned)drawn.index);
     check(drawn.number == number && drawn.index == index, what);
-    check(drawn.records == 0 && drawn.cells == 0, what);
+    check(drawn.records == 0 && drawn.cells == 0 && drawn.cut == 0, what);
     check(memcmp(after->mask, before->mask, sizeof after->mask) == 0, what);
     if (number == MZ_ROOM) {
         check(wiped(after), what);
@@ -167,23 +194,24 @@ static MzLabel slanted_label(bool even_odd) {
     return label;
 }
 
-static void check_slanted(const Call *call, MzDrawn drawn, const uint8_t *mask, const char *what) {
-    check(answers(drawn, 12, 93), what);
+static void check_slanted(const Call *call, MzDrawn drawn, const uint8_t *mask, uint32_t cut,
+                          const char *what) {
+    check(counts(drawn, 12, 93, cut), what);
     check(masked(call, mask, 314), what);
     check(wiped(call), what);
 }
 
 /* A workspace that is just enough at once, and one that is so in bands of 3 rows (or of 1). */
-static void slanted_with(Call call, const uint8_t *mask, const char *what) {
+static void slanted_with(Call call, const uint8_t *mask, uint32_t cut, const char *what) {
     call.words_len = MZ_WORKSPACE_WORDS(11, 93);
     Call at_once = call;
     MzDrawn drawn = draw(&at_once);
-    check_slanted(&at_once, drawn, mask, what);
+    check_slanted(&at_once, drawn, mask, cut, what);
     call.words_len = MZ_BANDS_WORDS(11, 3, 30);
     for (size_t step = 1; step <= 3; step += 2) {
         Call in_bands = call;
         drawn = draw_in_bands(&in_bands, step);
-        check_slanted(&in_bands, drawn, mask, what);
+        check_slanted(&in_bands, drawn, mask, cut, what);
     }
 }
 
@@ -221,7 +249,7 @@ static void slanted_without_room_in_bands(Call call) {
 /* In bands, what the first of them says that is refused by itself with the same words. */
 static void expect_as_the_first_full_band(Call call, size_t step) {
     const MzLabel label = call.label;
-    MzDrawn alone = {0, 0, 0, 0};
+    MzDrawn alone = {0, 0, 0, 0, 0};
     for (size_t at = label.first; at < label.end && alone.number == MZ_ACCEPTED; at += step) {
         Call band = call;
         band.label.first = at;
@@ -244,14 +272,26 @@ static void slanted_in_bands_with_any_room(Call call) {
     }
 }
 
+/* Moved by less than 1/256 all 13 x, or all x and y, are cut to where they were. */
+static void slanted_off_the_grid(const List *list, const uint8_t *mask) {
+    MzLabel label = slanted_label(false);
+    label.offset_x += 1.0f / 1024;
+    slanted_with(call_for(list, label), mask, 13, "slanted, x off the grid");
+    label.offset_y += 3.0f / 1024;
+    slanted_with(call_for(list, label), mask, 26, "slanted, x and y off the grid");
+    slanted_without_room(call_for(list, label));
+    slanted_without_room_in_bands(call_for(list, label));
+}
+
 static void slanted(const char *folder) {
     List list = empty_list();
     uint8_t mask[314];
     list.len = read_worked(folder, "slanted.mzp", list.bytes, sizeof list.bytes);
     read_worked(folder, "slanted_even_odd.mask", mask, sizeof mask);
-    slanted_with(call_for(&list, slanted_label(true)), mask, "slanted, even-odd");
+    slanted_with(call_for(&list, slanted_label(true)), mask, 0, "slanted, even-odd");
     read_worked(folder, "slanted_nonzero.mask", mask, sizeof mask);
-    slanted_with(call_for(&list, slanted_label(false)), mask, "slanted, nonzero");
+    slanted_with(call_for(&list, slanted_label(false)), mask, 0, "slanted, nonzero");
+    slanted_off_the_grid(&list, mask);
     for (int even_odd = 0; even_odd <= 1; even_odd += 1) {
         Call call = call_for(&list, slanted_label(even_odd == 1));
         slanted_without_room(call);
@@ -301,20 +341,22 @@ static void transforms_are_applied(void) {
     check(vector.x == 4.5f && vector.y == -2.75f, "mz_transform_vector");
 }
 
-/* From (11, -1) to (9.75, 3.75), moved by (0.5, -2.25). */
+/* From (11, -1) to (9.75, 3.75) and back, moved by (0.5 and 1/512, -2.25): each x is cut. */
 static void slanted_line_is_placed(void) {
     MzTransform t = slanted_label(false).transform;
     List list = one_move(2, -4);
     line_to(&list, 3, 1);
+    line_to(&list, 2, -4);
     MzBounds box = mz_bounds(list.bytes, list.len, t);
     check(box.number == MZ_ACCEPTED && box.index == 0, "slanted box: number and index");
     check(box.min_x == 9.75f && box.min_y == -1, "slanted box: minimum");
     check(box.max_x == 11 && box.max_y == 3.75f, "slanted box: maximum");
-    MzPlacement placed = mz_placement(list.bytes, list.len, t, 0.5f, -2.25f, true);
+    MzPlacement placed = mz_placement(list.bytes, list.len, t, 0.501953125f, -2.25f, true);
     check(placed.number == MZ_ACCEPTED && placed.index == 0, "slanted place: number and index");
     check(placed.offset_x == -10 && placed.offset_y == 4, "slanted place: offset");
     check(placed.left == 10 && placed.top == 2, "slanted place: left and top");
     check(placed.width == 2 && placed.height == 6, "slanted place: size");
+    check(placed.cut == 3, "slanted place: cut");
 }
 
 /* ---- what the header says besides */
@@ -486,6 +528,7 @@ static void k11_placement(void) {
     check(placed.width == 4 && placed.height == 2, "K11: size");
     check(placed.left == -1 && placed.top == 3, "K11: left and top");
     check(placed.offset_x == 1 && placed.offset_y == -1, "K11: offset");
+    check(placed.cut == 0, "K11: cut");
     MzPlacement from_top = mz_placement(list.bytes, list.len, mz_identity(), -1, 1, false);
     check(from_top.left == -1 && from_top.top == 1, "K11 from the top: left and top");
     MzBounds bounds = mz_bounds(list.bytes, list.len, mz_identity());
@@ -504,6 +547,7 @@ static void the_largest_placement(void) {
     check(placed.width == 8194 && placed.height == 8194, "largest place: size");
     check(placed.left == -4097 && placed.top == -4097, "largest place: left and top");
     check(placed.offset_x == 4097 && placed.offset_y == 4097, "largest place: offset");
+    check(placed.cut == 4, "largest place: cut");
     MzPlacement from_bottom = mz_placement(list.bytes, list.len, mz_identity(), 0, 0, true);
     check(from_bottom.top == 4097, "largest place from the bottom: top");
     MzLabel label = mz_label(placed.width, placed.height);
@@ -702,7 +746,16 @@ static void the_fullest_rows_fit_by_three(void) {
     check(answers(drawn, 132, 4 * (MZ_MOST_SIDE + 1)), "the fullest rows by three");
 }
 
-/* By bounds and placement: number and index, and all else 0, no zero having a sign. */
+/* A refused placement: number and index, and all else 0, no zero having a sign. */
+static void expect_no_place(MzPlacement placed, uint32_t number, uint32_t index) {
+    MzPlacement no_place;
+    memset(&no_place, 0, sizeof no_place);
+    no_place.number = number;
+    no_place.index = index;
+    check(memcmp(&placed, &no_place, sizeof placed) == 0, "placement: refused");
+}
+
+/* The same by bounds and placement. */
 static void expect_no_box(const uint8_t *bytes, size_t len, uint32_t number, uint32_t index) {
     MzBounds no_box;
     memset(&no_box, 0, sizeof no_box);
@@ -710,14 +763,10 @@ static void expect_no_box(const uint8_t *bytes, size_t len, uint32_t number, uin
     no_box.index = index;
     MzBounds bounds = mz_bounds(bytes, len, mz_identity());
     check(memcmp(&bounds, &no_box, sizeof bounds) == 0, "bounds: refused");
-    MzPlacement no_place;
-    memset(&no_place, 0, sizeof no_place);
-    no_place.number = number;
-    no_place.index = index;
-    MzPlacement placed = mz_placement(bytes, len, mz_identity(), 0, 0, false);
-    check(memcmp(&placed, &no_place, sizeof placed) == 0, "placement: refused");
-    placed = mz_placement(bytes, len, mz_identity(), 0, 0, true);
-    check(memcmp(&placed, &no_place, sizeof placed) == 0, "placement from the bottom: refused");
+    for (int up = 0; up <= 1; up += 1) {
+        MzPlacement placed = mz_placement(bytes, len, mz_identity(), 0, 0, up == 1);
+        expect_no_place(placed, number, index);
+    }
 }
 
 /* By every call that takes a list, with room and, since 13 comes last, without. */
@@ -729,43 +778,47 @@ static void expect_record_refused(const List *list, uint32_t number, uint32_t in
     expect_no_box(list->bytes, list->len, number, index);
 }
 
-/* 8 to 12, behind K1's five records or alone. */
-static void records_are_refused(void) {
-    List list = rectangle();
+/* 8 to 12 and 18, behind a rectangle's five records or in the first of them. */
+static void records_are_refused(const List good) {
+    List list = good;
     list.bytes[list.len++] = 2;
     expect_record_refused(&list, MZ_CUT, 5);
-    list = rectangle();
+    list = good;
     put_u16(&list, 2);
     put_u16(&list, 6);
     expect_record_refused(&list, MZ_KIND, 5);
-    list = rectangle();
+    list = good;
     put_u16(&list, 4);
     put_u16(&list, 5);
     expect_record_refused(&list, MZ_LENGTH, 5);
-    list = empty_list();
-    close_path(&list);
+    list = good;
+    list.bytes[2] = 2;
     expect_record_refused(&list, MZ_START, 0);
-    list = rectangle();
+    list = good;
     move_to(&list, 4096.00390625f, 0);
     expect_record_refused(&list, MZ_POINT, 5);
-    list = rectangle();
+    list = good;
     move_to(&list, 0, 0);
     line_to(&list, NAN, 0);
     expect_record_refused(&list, MZ_POINT, 6);
+    list = good;
+    line_to(&list, 2, 2);
+    expect_record_refused(&list, MZ_AFTER_CLOSE, 5);
 }
 
 static void expect_list_accepted(const List *list, uint32_t records) {
     Call call = call_of(list, 4, 3);
     Call in_bands = call;
+    uint32_t cut = ruled_cut(list, call.label);
     MzDrawn drawn = draw(&call);
-    check(answers(drawn, records, drawn.cells), "drawing: accepted");
+    check(counts(drawn, records, drawn.cells, cut), "drawing: accepted");
     MzDrawn by_rows = draw_in_bands(&in_bands, 1);
-    check(answers(by_rows, records, drawn.cells), "drawing in bands: accepted");
+    check(counts(by_rows, records, drawn.cells, cut), "drawing in bands: accepted");
     check(memcmp(in_bands.mask, call.mask, sizeof call.mask) == 0, "drawing in bands: mask");
     MzBounds bounds = mz_bounds(list->bytes, list->len, mz_identity());
     check(bounds.number == MZ_ACCEPTED, "bounds: accepted");
     MzPlacement placed = mz_placement(list->bytes, list->len, mz_identity(), 0, 0, false);
-    check(placed.number == MZ_ACCEPTED, "placement: accepted");
+    check(placed.number == MZ_ACCEPTED && placed.cut == cut, "placement: accepted");
 }
 
 /* Each part of each point of each kind of record by itself: accepted, or 12. */
@@ -798,7 +851,7 @@ static void points_are_judged_with_the_offset(void) {
     label.offset_y = -1.0f / 256;
     expect_refusal(call_for(&list, label), MZ_POINT, 0);
     MzPlacement placed = mz_placement(list.bytes, list.len, mz_identity(), 1.0f / 256, 0, false);
-    check(placed.number == MZ_POINT, "placement: the offset is added");
+    expect_no_place(placed, MZ_POINT, 0);
     MzBounds bounds = mz_bounds(list.bytes, list.len, mz_identity());
     check(bounds.number == MZ_ACCEPTED, "bounds: no offset is added");
 }
@@ -1043,9 +1096,9 @@ static void offsets_are_judged_in_order(void) {
     label.offset_x = 1.0f / 256;
     expect_refusal(call_for(&list, label), MZ_AFTER_CLOSE, 2);
     MzPlacement placed = mz_placement(list.bytes, list.len, mz_identity(), 1.0f / 256, 0, false);
-    check(placed.number == MZ_AFTER_CLOSE && placed.index == 2, "placement: 18 before 12");
+    expect_no_place(placed, MZ_AFTER_CLOSE, 2);
     placed = mz_placement(list.bytes, list.len, mz_identity(), NAN, 0, false);
-    check(placed.number == MZ_FLOAT && placed.index == 0, "placement: 6 before 18");
+    expect_no_place(placed, MZ_FLOAT, 0);
     MzBounds bounds = mz_bounds(list.bytes, list.len, mz_scale(INFINITY, 1));
     check(bounds.number == MZ_FLOAT && bounds.index == 0, "bounds: 6 before 18");
 }
@@ -1110,6 +1163,214 @@ static void nothing_is_drawn_after_close(void) {
     figures_behind_a_close_are_drawn();
 }
 
+/* ---- how many coordinates are cut */
+
+static bool is_cut(MzDrawn drawn, uint32_t cut) {
+    return drawn.number == MZ_ACCEPTED && drawn.index == 0 && drawn.cut == cut;
+}
+
+/* The label's rows at once, and in bands of every height. */
+static void expect_cut_in_rows(Call call, uint32_t cut, const char *what) {
+    size_t rows = call.label.end - call.label.first;
+    MzDrawn drawn = draw(&call);
+    check(is_cut(drawn, cut), what);
+    for (size_t step = 0; step <= rows + 1; step += 1) {
+        drawn = draw_in_bands(&call, step);
+        check(is_cut(drawn, cut), what);
+    }
+}
+
+/* Any rows of the label, or none, down or upward, and its placement. */
+static void expect_cut(Call call, uint32_t cut, const char *what) {
+    MzLabel *label = &call.label;
+    for (label->first = 0; label->first <= label->height; label->first += 1) {
+        for (label->end = label->first; label->end <= label->height; label->end += 1) {
+            label->up = !label->up;
+            expect_cut_in_rows(call, cut, what);
+        }
+    }
+    for (int up = 0; up <= 1; up += 1) {
+        MzPlacement placed = mz_placement(call.list, call.list_len, label->transform,
+                                          label->offset_x, label->offset_y, up == 1);
+        check(placed.number == MZ_ACCEPTED && placed.index == 0 && placed.cut == cut, what);
+    }
+}
+
+/* A number worked by hand. */
+static void expect_worked_cut(List list, MzLabel label, uint32_t cut, const char *what) {
+    check(ruled_cut(&list, label) == cut, what);
+    expect_cut(call_for(&list, label), cut, what);
+}
+
+/* One point, whose x becomes x*xx + y*yx + offset_x; every product and every sum is rounded. */
+static void worked_points_are_cut(void) {
+    static const struct {
+        float x;
+        float y;
+        float xx;
+        float yx;
+        float offset_x;
+        uint32_t cut;
+    } worked[] = {
+        {-0.003f, -0.00390625f, 1, 0, 0, 1},
+        {-0.0f, 1e-45f, 1, 0, 0, 1},
+        {-1e-45f, -0.0f, 1, 0, 0, 1},
+        {0.5f, 1.00390625f, 1, 0, 0, 0},
+        {0.1f, 0.1f, 1, 0, 0, 2},
+        {4096.00341796875f, -4096.00341796875f, 1, 0, 0, 2},
+        {4096, -4096, 1, 0, 0, 0},
+        {1, 2, 1, 0, 1.0f / 512, 1},
+        {1.001953125f, 2, 1, 0, 0, 1},
+        {1.001953125f, 2, 1, 0, -1.0f / 512, 0},
+        {2048.000244140625f, 2, 1, 0, 0, 1},
+        {2048.000244140625f, 2, 1, 0, 2048, 0}, /* rounded to 4096 */
+        {1e-45f, 2, 1, 0, 0.5f, 0},             /* to 0.5 */
+        {1, 2, 1.0f / 256, 0, 0, 0},
+        {1, 2, 1.0f / 512, 0, 0, 1},
+        {0.1f, 2, 0, 0, 0, 0},
+        {1.0f / 3, -1, 1, 0, 0, 1},
+        {1.0f / 3, -1, 3, 1, 0, 0}, /* the product to 1 */
+    };
+    for (size_t each = 0; each < LENGTH(worked); each += 1) {
+        MzLabel label = mz_label(4, 3);
+        label.transform.xx = worked[each].xx;
+        label.transform.yx = worked[each].yx;
+        label.offset_x = worked[each].offset_x;
+        List list = one_move(worked[each].x, worked[each].y);
+        expect_worked_cut(list, label, worked[each].cut, "a point by hand: cut");
+    }
+}
+
+/* A -0.0 stays one only where transform and offset have it too. */
+static void negative_zeros_are_not_cut(void) {
+    MzLabel label = mz_label(4, 3);
+    label.transform = mz_translation(-0.0f, -0.0f);
+    label.offset_x = label.offset_y = -0.0f;
+    expect_worked_cut(one_move(-0.0f, -0.0f), label, 0, "negative zeros: cut");
+}
+
+/* K1 and K2, which lie on the grid; K1 moved off it by its offset, by its transform, by both. */
+static void worked_rectangles_are_cut(void) {
+    MzLabel label = mz_label(4, 3);
+    expect_worked_cut(rectangle(), label, 0, "K1: cut");
+    expect_worked_cut(rectangle_of(1.5f, 1, 2, 2), label, 0, "K2: cut");
+    label.offset_x = 1.0f / 512;
+    expect_worked_cut(rectangle(), label, 4, "K1 with an x off the grid");
+    label.offset_y = 1.0f / 512;
+    expect_worked_cut(rectangle(), label, 8, "K1 with an x and a y off the grid");
+    label.transform = mz_translation(1.0f / 512, 0);
+    expect_worked_cut(rectangle(), label, 4, "K1 moved onto the grid again");
+    label.offset_x = label.offset_y = 0;
+    expect_worked_cut(rectangle(), label, 4, "K1 with a transform off the grid");
+    memset(&label.transform, 0, sizeof label.transform);
+    expect_worked_cut(rectangle_of(1.1f, 1.1f, 3.1f, 2.1f), label, 0, "zeros leave nothing to cut");
+}
+
+/* Each coordinate of each kind of record by itself, control points too. */
+static void every_coordinate_counts(void) {
+    for (unsigned kind = 1; kind < LENGTH(floats_of); kind += 1) {
+        for (unsigned at = 0; at < floats_of[kind]; at += 1) {
+            expect_worked_cut(one_far_float(kind, at, 0.1f), mz_label(4, 3), 1, "one of a record");
+        }
+    }
+}
+
+/* A point counts as often as the list has it, and a figure that no row shows. */
+static void every_point_counts(void) {
+    List list = one_move(0.1f, 0.1f);
+    line_to(&list, 0.1f, 0.1f);
+    close_path(&list);
+    close_path(&list);
+    move_to(&list, 0.1f, 0.1f);
+    expect_worked_cut(list, mz_label(4, 3), 6, "a point again and again");
+    list = rectangle_of(-9.1f, -9.1f, -8.1f, -8.1f);
+    put_rectangle(&list, 9.1f, 9.1f, 8.1f, 8.1f);
+    expect_worked_cut(list, mz_label(4, 3), 16, "figures beside the label");
+}
+
+/* 14,042 coordinates; a Close fits behind them, and with a byte more it is 7. */
+static void the_most_coordinates_are_cut(void) {
+    static uint8_t bytes[MZ_MOST_LIST + 1];
+    List list = one_move(0.1f, 0.1f);
+    put_header(&list, 4);
+    for (int part = 0; part < 6; part += 1) {
+        put_float(&list, 0.1f);
+    }
+    close_path(&list);
+    memcpy(bytes, list.bytes, 12);
+    for (size_t at = 12; at < MZ_MOST_LIST - 4; at += 28) {
+        memcpy(bytes + at, list.bytes + 12, 28);
+    }
+    memcpy(bytes + MZ_MOST_LIST - 4, list.bytes + 40, 4);
+    Call call = call_of(&list, 4, 3);
+    call.list = bytes;
+    call.list_len = MZ_MOST_LIST - 4;
+    expect_cut(call, 14042, "the most coordinates");
+    call.list_len = MZ_MOST_LIST;
+    expect_cut(call, 14042, "the most coordinates, closed");
+    call.list_len = MZ_MOST_LIST + 1;
+    expect_refusal(call, MZ_LIST, 0);
+    expect_no_box(bytes, MZ_MOST_LIST + 1, MZ_LIST, 0);
+}
+
+static MzLabel label_by_dice(uint32_t *state) {
+    static const float entries[] = {0, 1, -1, 0.5f, 2, 0.375f, 0.1f};
+    MzLabel label = mz_label(4, 3);
+    label.transform.xx = entries[dice(state, LENGTH(entries))];
+    label.transform.xy = entries[dice(state, LENGTH(entries))];
+    label.transform.yx = entries[dice(state, LENGTH(entries))];
+    label.transform.yy = entries[dice(state, LENGTH(entries))];
+    label.transform.x = (float)dice(state, 4) / 512;
+    label.transform.y = (float)dice(state, 4) / 512;
+    label.offset_x = (float)dice(state, 4) / 512;
+    label.offset_y = (float)dice(state, 4) / 512;
+    return label;
+}
+
+static void lists_by_dice_are_cut(void) {
+    uint32_t state = 2;
+    for (int each = 0; each < 500; each += 1) {
+        List list = list_by_dice(&state);
+        MzLabel label = label_by_dice(&state);
+        expect_cut(call_for(&list, label), ruled_cut(&list, label), "a list by dice: cut");
+    }
+}
+
+/* An empty list's offset is no coordinate, also where the point rule refuses it. */
+static void empty_lists_are_not_cut(void) {
+    MzLabel label = mz_label(4, 3);
+    label.offset_x = label.offset_y = 0.1f;
+    expect_worked_cut(empty_list(), label, 0, "an empty list: cut");
+    MzPlacement placed = mz_placement(NULL, 0, mz_identity(), 0.1f, 4096.1f, false);
+    expect_no_place(placed, MZ_POINT, 0);
+}
+
+/* All coordinates are off the grid, and every refusal tells none. */
+static void refusals_tell_no_cut(void) {
+    List list = rectangle_of(1.1f, 1.1f, 3.1f, 2.1f);
+    sizes_and_floats_are_refused(list);
+    records_are_refused(list);
+    Call call = call_of(&list, 4, 3);
+    call.words_len = 3;
+    expect_refusal(call, MZ_ROOM, 2);
+    MzPlacement placed = mz_placement(list.bytes, list.len, mz_identity(), 0, INFINITY, false);
+    expect_no_place(placed, MZ_FLOAT, 0);
+    placed = mz_placement(list.bytes, list.len, mz_identity(), 4094, 0, true);
+    expect_no_place(placed, MZ_POINT, 1);
+}
+
+static void cut_coordinates_are_counted(void) {
+    worked_points_are_cut();
+    negative_zeros_are_not_cut();
+    worked_rectangles_are_cut();
+    every_coordinate_counts();
+    every_point_counts();
+    the_most_coordinates_are_cut();
+    lists_by_dice_are_cut();
+    empty_lists_are_not_cut();
+    refusals_tell_no_cut();
+}
+
 static void rules_examples(void) {
     k1_rectangle();
     k1_band_upward();
@@ -1129,7 +1390,7 @@ static void refusals(void) {
     the_last_row_is_filled();
     the_most_cells_are_drawn();
     the_fullest_rows_fit_by_three();
-    records_are_refused();
+    records_are_refused(rectangle());
     every_point_is_judged();
     points_are_judged_with_the_offset();
 }
@@ -1153,6 +1414,7 @@ int main(int argc, char **argv) {
     refusals();
     the_record_without_room_is_named();
     nothing_is_drawn_after_close();
+    cut_coordinates_are_counted();
     printf("C face: %d checks, %d differ\n", checks, failures);
     return failures == 0 ? 0 : 1;
 }

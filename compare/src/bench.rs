@@ -4,8 +4,10 @@
 //! the mask is cleared for each label. The port reads and judges a list of bytes, writes every byte
 //! of the label and leaves its workspace wiped: it needs nothing cleared.
 //!
-//! Beside labels, long rows are filled store by store, in one order or another.
+//! Beside labels, long rows are filled store by store, in one order or another, and long lists are
+//! judged and not drawn.
 
+mod judging;
 mod passes;
 mod rows;
 mod samples;
@@ -18,33 +20,37 @@ use passes::{Pass, ZenoPass};
 use samples::Group;
 
 pub const USAGE: &str =
-    "compare bench [--labels N] [--rounds N] [--only text|curves|lines|largest|rows]";
+    "compare bench [--labels N] [--rounds N] [--only text|curves|lines|largest|rows|judging]";
 
 pub fn bench(words: &[String]) -> Result<(), Stopped> {
     let known = ["--labels", "--rounds", "--only"];
     let flags = Flags::read(words, &known).map_err(Stopped::Asked)?;
     let labels = flags.number("--labels", 5000).map_err(Stopped::Asked)?;
     let rounds = flags.number("--rounds", 5).map_err(Stopped::Asked)?.max(1);
-    let is_asked = |name: &str| flags.word("--only").is_none_or(|only| only == name);
+    let only = flags.word("--only");
+    let is_asked = |name: &str| only.is_none_or(|only| only == name);
     let groups: Vec<Group> = samples::GROUPS
         .iter()
         .filter(|(name, ..)| is_asked(name))
         .map(samples::group)
         .collect();
-    let in_rows = is_asked("rows");
-    if groups.is_empty() && !in_rows {
-        let what = "bench --only takes one of text, curves, lines, largest, rows".to_string();
-        return Err(Stopped::Asked(what));
+    let (in_rows, judging) = (is_asked("rows"), is_asked("judging"));
+    if groups.is_empty() && !in_rows && !judging {
+        let what = "bench --only takes one of text, curves, lines, largest, rows, judging";
+        return Err(Stopped::Asked(what.to_string()));
     }
     if !groups.is_empty() {
         of_labels(&groups, labels, rounds).map_err(Stopped::Different)?;
     }
-    if !groups.is_empty() && in_rows {
-        println!();
-    }
+    let between_parts = if only.is_none() { "\n" } else { "" };
     if in_rows {
+        print!("{between_parts}");
         let count = labels.div_ceil(LABELS_A_ROW) as usize;
         rows::in_every_order(count, rounds).map_err(Stopped::Different)?;
+    }
+    if judging {
+        print!("{between_parts}");
+        judging::of_long_lists(labels as usize, rounds).map_err(Stopped::Different)?;
     }
     Ok(())
 }

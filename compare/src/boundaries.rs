@@ -1,7 +1,8 @@
 //! Every boundary and every refusal of the rules (docs/RULES.md) as a call, with the number and the
-//! index that they give, written down by hand. The tests hold the reading to this table, the
-//! program the port.
+//! index that they give, and coordinates that are cut or just not, written down by hand. The tests hold
+//! the reading to this table, the program the port.
 
+mod cuts;
 mod lists;
 mod orders;
 mod rooms;
@@ -16,6 +17,8 @@ pub struct Boundary {
     pub what: String,
     pub number: u8,
     pub index: usize,
+    /// How many coordinates are cut, where that is written down; none of a refused call.
+    pub cut: Option<usize>,
     pub drawing: Drawing,
 }
 
@@ -25,6 +28,7 @@ pub fn table() -> Vec<Boundary> {
     table.extend(lists::table());
     table.extend(orders::table());
     table.extend(rooms::table());
+    table.extend(cuts::table());
     table
 }
 
@@ -38,6 +42,18 @@ impl Rows {
             what: what.into(),
             number,
             index,
+            cut: (number != 0).then_some(0),
+            drawing,
+        });
+    }
+
+    /// No refusal, and so many coordinates cut.
+    fn cut(&mut self, what: impl Into<String>, cut: usize, drawing: Drawing) {
+        self.0.push(Boundary {
+            what: what.into(),
+            number: 0,
+            index: 0,
+            cut: Some(cut),
             drawing,
         });
     }
@@ -77,14 +93,36 @@ pub fn closed(points: &[(f32, f32)]) -> Vec<Command> {
 #[cfg(test)]
 mod tests {
     use super::*;
+    use crate::drawing::Way;
     use crate::driver;
+    use crate::oracle::Origin;
+    use std::collections::HashSet;
 
     #[test]
     fn the_reading_answers_as_the_table() {
         for row in table() {
             let outcome = driver::outcome(&row.drawing);
-            let answer = (outcome.number, outcome.index);
-            assert_eq!(answer, (row.number, row.index), "{}", row.what);
+            let answer = (outcome.number, outcome.index, outcome.cut);
+            let cut = row.cut.unwrap_or(outcome.cut);
+            assert_eq!(answer, (row.number, row.index, cut), "{}", row.what);
+        }
+    }
+
+    /// Each band alone, all in bands and a placement tell as many as the table has for the label.
+    #[test]
+    fn as_many_are_cut_in_every_band_and_placed() {
+        for row in cuts::table().iter().filter(|row| row.number == 0) {
+            let call = &row.drawing;
+            let mut told = HashSet::new();
+            for end in 0..=call.height {
+                let bands = (0..=end).map(|first| call.band(first, end));
+                told.extend(bands.map(|band| driver::outcome(&band).cut));
+            }
+            told.insert(driver::outcome_in(call, Way::InBands(1)).cut);
+            let (transform, offset) = (call.transform, call.offset);
+            let placed = driver::placement(&call.list, transform, offset, Origin::TopLeft);
+            told.insert(placed.expect("an accepted list").cut);
+            assert_eq!(told, HashSet::from([row.cut.unwrap()]), "{}", row.what);
         }
     }
 

@@ -1,5 +1,6 @@
 //! One call of a drawing with all that it is lent, and calls drawn from the dice.
 
+mod cuts;
 mod filled;
 mod limits;
 mod no_room;
@@ -9,6 +10,7 @@ mod simpler;
 mod way;
 mod wild;
 
+pub use cuts::{cuts_at_once, cuts_in_a_band, cuts_in_bands, cuts_of_each_float, cuts_on_a_label};
 pub use filled::{every_order, long_rows_filled, orders_in_all, rows_filled};
 pub use limits::{
     at_the_cap, at_the_limits, in_bands_at_the_cap, in_bands_of_full_rows, with_just_room,
@@ -19,7 +21,7 @@ pub use no_room::{
 pub use old::{soil, soil_words};
 pub use shown::{floats_shown, rule_shown};
 pub use simpler::simpler_floats;
-pub use way::{any_step, with_room_for_bands, Way};
+pub use way::{any_step, shown_in, simpler_in, with_room_for_bands, Way};
 pub use wild::wild;
 
 use crate::list;

@@ -1,4 +1,5 @@
-//! What a call must answer and leave behind: refusals by the reading, everything else by zeno.
+//! What a call must answer and leave behind: refusals and how many coordinates are cut by the reading,
+//! everything else by zeno.
 
 use std::ops::Range;
 
@@ -26,6 +27,8 @@ pub struct Outcome {
     pub index: usize,
     pub records: usize,
     pub cells: usize,
+    /// How many coordinates of the list are cut, whatever the band is.
+    pub cut: usize,
     pub mask: Vec<u8>,
     pub words: Vec<u32>,
 }
@@ -62,6 +65,8 @@ pub struct Drawn {
     pub records: usize,
     /// Rows counted from the band's first.
     pub cells: Vec<CellAt>,
+    /// How many coordinates of the list are cut.
+    pub cut: usize,
 }
 
 /// Draws a call at once, all refusals judged.
@@ -87,6 +92,7 @@ pub fn drawn_in(drawing: &Drawing, way: Way) -> Result<Drawn, Refusal> {
         whole: mask,
         records: path.len(),
         cells,
+        cut: cuts(&path, drawing.transform, drawing.offset),
     })
 }
 
@@ -131,6 +137,7 @@ pub fn outcome_in(drawing: &Drawing, way: Way) -> Outcome {
             index: 0,
             records: drawn.records,
             cells: drawn.cells.len(),
+            cut: drawn.cut,
             mask: band_mask(drawing, &drawn.whole),
             words: wiped(),
         },
@@ -145,16 +152,36 @@ pub fn bounds(list: &[u8], transform: Transform) -> Result<Bounds, Refusal> {
     Ok(oracle::bounds(&path, transform))
 }
 
-/// The new offset and the placement of a list.
+/// What an accepted placement answers.
+#[derive(Clone, Copy, Debug, Default)]
+pub struct PlacedList {
+    /// The new offset.
+    pub offset: Vector,
+    pub place: Placement,
+    /// How many coordinates of the list are cut.
+    pub cut: usize,
+}
+
+/// The placement of a list.
 pub fn placement(
     list: &[u8],
     transform: Transform,
     offset: Vector,
     origin: Origin,
-) -> Result<(Vector, Placement), Refusal> {
+) -> Result<PlacedList, Refusal> {
     let path = reading::judge_placement(list, &transform, offset)?;
     let bounds = oracle::bounds(&path, transform);
-    Ok(Placement::compute(origin, offset, &bounds))
+    let (new_offset, place) = Placement::compute(origin, offset, &bounds);
+    Ok(PlacedList {
+        offset: new_offset,
+        place,
+        cut: cuts(&path, transform, offset),
+    })
+}
+
+/// How many coordinates of a path whose points pass are cut: by the reading, of zeno's points.
+pub fn cuts(path: &[Command], transform: Transform, offset: Vector) -> usize {
+    reading::cuts(oracle::points(path, transform, offset))
 }
 
 fn label_of<'a>(drawing: &Drawing, path: &'a [Command], up: bool, pitch: usize) -> Label<'a> {
@@ -176,6 +203,7 @@ fn refused(drawing: &Drawing, refusal: Refusal, words: Vec<u32>) -> Outcome {
         index: refusal.index,
         records: 0,
         cells: 0,
+        cut: 0,
         mask: drawing.mask.clone(),
         words,
     }

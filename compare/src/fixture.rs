@@ -1,7 +1,8 @@
 //! Stored answers for a program in another language to replay; `compare fixture OUT` writes them.
-//! Where the number is 0 they are zeno's. Zeno refuses nothing: every other number is the reading's,
-//! which for 13 counts zeno's cells record by record. All numbers are little-endian; floats are IEEE
-//! 754 binary32 by their bits.
+//! Where the number is 0 they are zeno's, but for how many coordinates were cut, which zeno does not
+//! tell and the reading does. Zeno refuses nothing: every other number is the reading's, which for 13
+//! counts zeno's cells record by record. All numbers are little-endian; floats are IEEE 754 binary32 by
+//! their bits.
 //!
 //! | field | bytes | what it is |
 //! |---|---|---|
@@ -24,7 +25,7 @@
 //! | up | 1 | 1 for up, 0 for down |
 //! | width, height, pitch, first, end | 5 × 4 | the band is [first, end) |
 //! | words | 4 | how many words are lent, at most 69,632 |
-//! | number, index, records, cells | 4 × 4 | the answer |
+//! | number, index, records, cells, cut | 5 × 4 | the answer |
 //! | mask length | 4 | how many bytes are lent, at most 65,536 |
 //! | whole | 1 | 1: the mask afterwards follows; 0: its checksum follows |
 //! | mask | that many, or 8 | the bytes, or their 64-bit FNV-1a |
@@ -39,14 +40,14 @@
 //! | number, index | 2 × 4 | the answer; where it is not 0, what follows is 0 |
 //! | offset | 2 × 4 | the new offset's bits, x and y |
 //! | left, top | 2 × 4 | signed |
-//! | width, height | 2 × 4 | |
+//! | width, height, cut | 3 × 4 | |
 
 mod cases;
 
 use crate::drawing::Drawing;
-use crate::driver;
+use crate::driver::{self, PlacedList};
 use crate::numbers::fnv1a;
-use crate::oracle::{Fill, Origin, Placement, Point, Transform};
+use crate::oracle::{Fill, Origin, Point, Transform};
 use crate::placing::Placing;
 
 const MAGIC: &[u8; 8] = b"MZREPLAY";
@@ -96,6 +97,7 @@ fn put_drawing(bytes: &mut Vec<u8>, d: &Drawing) {
     put(bytes, outcome.index);
     put(bytes, outcome.records);
     put(bytes, outcome.cells);
+    put(bytes, outcome.cut);
     put_mask(bytes, &outcome.mask);
 }
 
@@ -121,7 +123,7 @@ fn put_placing(bytes: &mut Vec<u8>, p: &Placing) {
     };
     put(bytes, number);
     put(bytes, index);
-    let (offset, place) = placed.unwrap_or((Point::ZERO, Placement::default()));
+    let PlacedList { offset, place, cut } = placed.unwrap_or_default();
     for part in [offset.x, offset.y] {
         bytes.extend(part.to_le_bytes());
     }
@@ -131,6 +133,7 @@ fn put_placing(bytes: &mut Vec<u8>, p: &Placing) {
     for part in [place.width, place.height] {
         bytes.extend(part.to_le_bytes());
     }
+    put(bytes, cut);
 }
 
 fn put(bytes: &mut Vec<u8>, number: usize) {
@@ -168,27 +171,28 @@ mod tests {
             u32::from_le_bytes(self.take(4).try_into().unwrap()) as usize
         }
 
-        /// Steps over a drawing and tells its number and index, words, mask length and whether it is
-        /// whole.
-        fn drawing(&mut self) -> [usize; 5] {
+        /// Steps over a drawing and tells its number, index and cut, words, mask length and whether
+        /// it is whole.
+        fn drawing(&mut self) -> [usize; 6] {
             let list = self.number();
             self.take(list + 8 * 4 + 2 + 5 * 4);
             let words = self.number();
             let (number, index) = (self.number(), self.number());
             self.take(2 * 4);
+            let cut = self.number();
             let mask = self.number();
             let whole = usize::from(self.take(1)[0]);
             self.take(if whole == 1 { mask } else { 8 });
-            [number, index, words, mask, whole]
+            [number, index, cut, words, mask, whole]
         }
 
-        /// Steps over a placement and tells its number and index.
-        fn placing(&mut self) -> [usize; 2] {
+        /// Steps over a placement and tells its number, index and cut.
+        fn placing(&mut self) -> [usize; 3] {
             let list = self.number();
             self.take(list + 8 * 4 + 1);
-            let answer = [self.number(), self.number()];
+            let (number, index) = (self.number(), self.number());
             self.take(6 * 4);
-            answer
+            [number, index, self.number()]
         }
     }
 
@@ -201,7 +205,7 @@ mod tests {
         let mut numbers: HashMap<usize, usize> = HashMap::new();
         let mut by_checksum = 0;
         for _ in 0..fixture.drawings {
-            let [number, _, words, mask, whole] = reader.drawing();
+            let [number, _, _, words, mask, whole] = reader.drawing();
             *numbers.entry(number).or_default() += 1;
             assert!(words <= 69_632 && mask <= 65_536, "{words} {mask}");
             by_checksum += 1 - whole;
@@ -230,7 +234,7 @@ mod tests {
         reader.number();
         let mut of_placements = HashSet::new();
         for _ in 0..fixture.placements {
-            let [number, index] = reader.placing();
+            let [number, index, _] = reader.placing();
             of_placements.extend((number == 18).then_some(index));
         }
         for indices in [of_drawings, of_placements, without_room] {
@@ -238,11 +242,35 @@ mod tests {
         }
     }
 
+    /// Many answers of either sort tell of coordinates cut, one of as many as may be, refusals of none.
+    #[test]
+    fn coordinates_are_cut_in_many_answers() {
+        let fixture = fixture();
+        let mut reader = Reader(&fixture.bytes[MAGIC.len() + 4..]);
+        let mut of_drawings = Vec::new();
+        for _ in 0..fixture.drawings {
+            let [number, _, cut, ..] = reader.drawing();
+            of_drawings.push((number, cut));
+        }
+        reader.number();
+        let mut of_placements = Vec::new();
+        for _ in 0..fixture.placements {
+            let [number, _, cut] = reader.placing();
+            of_placements.push((number, cut));
+        }
+        assert!(of_drawings.contains(&(0, 14_042)));
+        for answers in [of_drawings, of_placements] {
+            let cut: Vec<_> = answers.iter().filter(|(_, cut)| *cut > 0).collect();
+            assert!(4 * cut.len() > answers.len(), "{}", cut.len());
+            assert!(cut.iter().all(|(number, _)| *number == 0));
+        }
+    }
+
     #[test]
     fn the_file_is_large_enough_and_small_enough() {
         let fixture = fixture();
         assert!(fixture.drawings >= 2000 && fixture.placements >= 500);
-        assert!(fixture.bytes.len() < 3_000_000, "{}", fixture.bytes.len());
+        assert!(fixture.bytes.len() < 1_048_576, "{}", fixture.bytes.len());
     }
 
     /// K1 stands first: its list, its answer and its mask.
@@ -255,8 +283,8 @@ mod tests {
         assert_eq!(bytes[answer + 8..answer + 16], [5, 0, 0, 0, 2, 0, 0, 0]);
         let mask = [0, 0, 0, 0, 0, 255, 255, 0, 0, 0, 0, 0];
         assert_eq!(
-            bytes[answer + 16..answer + 33],
-            [&[12, 0, 0, 0, 1], &mask[..]].concat()
+            bytes[answer + 16..answer + 37],
+            [&[0, 0, 0, 0, 12, 0, 0, 0, 1], &mask[..]].concat()
         );
     }
 }

@@ -1,6 +1,6 @@
 //! Damaged and random calls thrown at the port, with marks around all that is lent or, every other
-//! time, blocks of the heap that fit exactly. Zeno is asked only where 13 is answered, so that this
-//! runs under a memory checker too:
+//! time, blocks of the heap that fit exactly. Zeno draws only where 13 is answered, so that this runs
+//! under a memory checker too:
 //!
 //!     valgrind --error-exitcode=1 target/compare/release/compare fuzz --seconds 300
 
@@ -8,7 +8,10 @@ use std::collections::BTreeMap;
 use std::time::{Duration, Instant};
 
 use crate::face::{self, Drawn};
-use crate::kinds::calls::{agree_on_answers, agree_on_masks, answer_of, drawn_in, keeps, Called};
+use crate::kinds::calls::{
+    accepted, agree_on_answers, agree_on_masks, drawn_in, keeps, refused, Called,
+};
+use crate::kinds::lists::agree_on_cuts;
 use crate::kinds::SEEKING;
 use crate::runs::Stopped;
 use compare::drawing::{any_step, soil, wild, Drawing, Way};
@@ -18,7 +21,7 @@ use compare::lent::{Around, Lent, BYTE_MARK};
 use compare::numbers::Dice;
 use compare::oracle::Origin;
 use compare::placing::{any_placing, Placing};
-use compare::reading::{self, Refusal};
+use compare::reading::{self, Accepted, Refusal};
 use compare::shrink::smallest;
 
 pub const USAGE: &str = "compare fuzz --seconds N [--seed S]";
@@ -146,19 +149,18 @@ fn draw_twice(drawing: &Drawing, way: Way, around: Around, seed: u64) -> Result<
     Ok(once)
 }
 
-/// Draws and judges what is left: every refusal but 13 by the reading, 13 by zeno's cells, everything
-/// else by the rules for what a call leaves.
+/// Draws and judges what is left: every refusal but 13, the records and the coordinates cut by the
+/// reading, 13 by zeno's cells, everything else by the rules for what a call leaves.
 fn draw(drawing: &Drawing, way: Way, around: Around) -> Result<Called, String> {
     let called = drawn_in(drawing, way, around)?;
     let answer = called.answer;
     match reading::judge(drawing) {
-        Err(Refusal { number, index }) => {
-            agree_on_answers(&answer, &answer_of(number, index, 0, 0))?;
-        }
+        Err(refusal) => agree_on_answers(&answer, &refused(refusal))?,
         Ok(_) if answer.number == 13 => agree_on_answers(&answer, &without_room(drawing, way)?)?,
         Ok(path) => {
             let cells = answer.cells as usize;
-            agree_on_answers(&answer, &answer_of(0, 0, path.len(), cells))?;
+            let cut = driver::cuts(&path, drawing.transform, drawing.offset);
+            agree_on_answers(&answer, &accepted(path.len(), cells, cut))?;
             if cells > room(drawing, way) {
                 return Err(format!("{cells} cells are more than the pools hold"));
             }
@@ -171,7 +173,7 @@ fn draw(drawing: &Drawing, way: Way, around: Around) -> Result<Called, String> {
 /// The refusal of a call that lacks nothing but room.
 fn without_room(drawing: &Drawing, way: Way) -> Result<Drawn, String> {
     match driver::drawn_in(drawing, way) {
-        Err(Refusal { number, index }) => Ok(answer_of(number, index, 0, 0)),
+        Err(refusal) => Ok(refused(refusal)),
         Ok(_) => Err("the port answers 13, zeno's cells have room".to_string()),
     }
 }
@@ -229,7 +231,11 @@ fn placement(placing: &Placing, around: Around) -> Result<u32, String> {
     let answer = face::placement(placing, list.part());
     keeps(&list, "the list")?;
     let judged = reading::judge_placement(&placing.list, &placing.transform, placing.offset);
-    same_number((answer.number, answer.index), judged.err())
+    let cuts = |path: &Accepted| driver::cuts(path, placing.transform, placing.offset);
+    let cut = judged.as_ref().map_or(0, cuts);
+    let number = same_number((answer.number, answer.index), judged.err())?;
+    agree_on_cuts(answer.rest.cut, cut)?;
+    Ok(number)
 }
 
 fn same_number(ours: (u32, u32), refusal: Option<Refusal>) -> Result<u32, String> {

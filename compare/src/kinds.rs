@@ -5,6 +5,7 @@ pub mod bands;
 pub mod boxes;
 pub mod calls;
 pub mod cells;
+pub mod cuts;
 pub mod drawings;
 pub mod filled;
 pub mod in_bands;
@@ -16,22 +17,27 @@ pub mod placements;
 pub mod stores;
 
 use std::collections::BTreeMap;
+use std::iter::repeat;
 use std::panic::{catch_unwind, AssertUnwindSafe};
 use std::time::{Duration, Instant};
 
 use compare::numbers::{same, shown, Dice};
 use compare::shrink::{smallest, Candidates};
 
-/// The heading that a case counts under, and how many parts of it were compared.
+/// The heading that a case counts under, and how many parts of it were compared, one count for each of
+/// the kind's.
 #[derive(Debug)]
 pub struct Agreed {
     heading: &'static str,
-    parts: usize,
+    parts: Vec<usize>,
 }
 
 impl From<&'static str> for Agreed {
     fn from(heading: &'static str) -> Agreed {
-        Agreed { heading, parts: 0 }
+        Agreed {
+            heading,
+            parts: Vec::new(),
+        }
     }
 }
 
@@ -41,8 +47,8 @@ pub type Verdict = Result<Agreed, String>;
 pub trait Kind {
     type Case: Clone;
 
-    /// What a case's parts are called where they are counted.
-    const PARTS: Option<&'static str> = None;
+    /// What is said of a case's parts behind their counts.
+    const PARTS: &'static [&'static str] = &[];
 
     fn name(&self) -> String;
 
@@ -63,13 +69,17 @@ pub trait Kind {
 #[derive(Default)]
 pub struct Tally {
     headings: BTreeMap<&'static str, u64>,
-    parts: u64,
+    parts: Vec<u64>,
 }
 
 impl Tally {
     fn add(&mut self, agreed: Agreed) {
         *self.headings.entry(agreed.heading).or_default() += 1;
-        self.parts += agreed.parts as u64;
+        let counted = self.parts.len().max(agreed.parts.len());
+        self.parts.resize(counted, 0);
+        for (sum, parts) in self.parts.iter_mut().zip(agreed.parts) {
+            *sum += parts as u64;
+        }
     }
 
     pub fn cases(&self) -> u64 {
@@ -84,7 +94,9 @@ impl Tally {
             .iter()
             .map(|(heading, count)| format!("{count} {heading}"))
             .collect();
-        told.extend(K::PARTS.map(|parts| format!("{} {parts} compared", self.parts)));
+        let counts = self.parts.iter().copied().chain(repeat(0));
+        let parts = K::PARTS.iter().zip(counts);
+        told.extend(parts.map(|(parts, count)| format!("{count} {parts}")));
         told.join("; ")
     }
 }

@@ -3,7 +3,7 @@
 
 use crate::boundaries::{closed, rectangle};
 use crate::drawing::{Drawing, Way};
-use crate::driver::{self, Outcome};
+use crate::driver::{self, Outcome, PlacedList};
 use crate::list;
 use crate::oracle::{
     self, Bounds, CellAt, Command, Fill, Label, Origin, Placement, Point, Run, Transform,
@@ -30,7 +30,7 @@ fn answer(outcome: &Outcome) -> (u8, &[u8], usize, usize) {
 
 fn refusal(drawing: &Drawing) -> (u8, usize) {
     let outcome = driver::outcome(drawing);
-    assert_eq!((outcome.records, outcome.cells), (0, 0));
+    assert_eq!((outcome.records, outcome.cells, outcome.cut), (0, 0, 0));
     assert_eq!(outcome.mask, drawing.mask, "a refusal leaves the mask");
     (outcome.number, outcome.index)
 }
@@ -188,8 +188,8 @@ fn k11_placement() {
     let bytes = list::written(&corners);
     let offset = at(-1.0, 1.0);
     let placed = driver::placement(&bytes, Transform::IDENTITY, offset, Origin::BottomLeft);
-    let (new_offset, place) = placed.unwrap();
-    assert_eq!((new_offset.x, new_offset.y), (1.0, -1.0));
+    let PlacedList { offset, place, cut } = placed.unwrap();
+    assert_eq!((offset.x, offset.y, cut), (1.0, -1.0, 0));
     assert_eq!((place.width, place.height), (4, 2));
     assert_eq!((place.left, place.top), (-1, 3));
     let bounds = driver::bounds(&bytes, Transform::IDENTITY).unwrap();
@@ -348,11 +348,11 @@ fn empty_list_judges_the_offset_in_a_placement_only() {
     let mut drawing = Drawing::plain(&[], 1, 1);
     drawing.offset = far;
     assert_eq!(driver::outcome(&drawing).number, 0);
-    let (offset, placed) = place(at(0.5, 0.5)).unwrap();
-    let bits = (offset.x.to_bits(), offset.y.to_bits());
+    let placed = place(at(0.5, 0.5)).unwrap();
+    let bits = (placed.offset.x.to_bits(), placed.offset.y.to_bits());
     assert_eq!(bits, (0x8000_0000, 0x8000_0000));
-    assert_eq!((placed.left, placed.top), (0, 1));
-    assert_eq!((placed.width, placed.height), (1, 1));
+    assert_eq!((placed.place.left, placed.place.top), (0, 1));
+    assert_eq!((placed.place.width, placed.place.height), (1, 1));
 }
 
 #[test]

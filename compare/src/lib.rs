@@ -7,13 +7,14 @@
 //! | `oracle` | safe functions over zeno: masks, cells and the commands that store them, runs, bounds, placements |
 //! | `numbers` | the dice, and numbers of every character |
 //! | `order` | the orders in which a row's places are filled |
+//! | `grid` | paths on the grid of 1/256 and beside it, and what moves them onto it or off it |
 //! | `list` | path lists: written as bytes, told in words, made simpler |
 //! | `paths` | paths of every character, exhaustive small ones, text, large ones, rows filled in order, damaged lists |
-//! | `drawing` | one call of a drawing; calls drawn from the dice, at boundaries, at limits, without room, in bands, of rows filled in order, wild ones |
+//! | `drawing` | one call of a drawing; calls drawn from the dice, at boundaries, at limits, without room, in bands, of rows filled in order, beside the grid, wild ones |
 //! | `placing` | one call of bounds or of a placement, and such calls drawn from the dice |
 //! | `stores` | one call of the pool, store by store; calls in every order, of drawings, at the cap, wild ones |
-//! | `boundaries` | every boundary and refusal of docs/RULES.md as a table written by hand |
-//! | `reading` | the rules' refusals, boxes, placements and pixels, read independently |
+//! | `boundaries` | every boundary and refusal of docs/RULES.md and coordinates cut as a table written by hand |
+//! | `reading` | the rules' refusals, cut coordinates, boxes, placements and pixels, read independently |
 //! | `driver` | what a call must leave behind, by the reading and zeno together |
 //! | `alone` | bands drawn by zeno alone, and the record at which one lacks room |
 //! | `pool` | the cells in the words of a workspace |
@@ -31,6 +32,7 @@ pub mod drawing;
 pub mod driver;
 pub mod fixture;
 pub mod flags;
+pub mod grid;
 pub mod lent;
 pub mod list;
 pub mod numbers;

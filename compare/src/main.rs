@@ -1,7 +1,7 @@
 //! Gives the same inputs to zeno and to the port and compares every answer.
 //!
 //!     compare [--seed S] [--scale N] [--share N] [--only KIND]
-//!     compare bench [--labels N] [--rounds N] [--only text|curves|lines|largest|rows]
+//!     compare bench [--labels N] [--rounds N] [--only text|curves|lines|largest|rows|judging]
 //!     compare fixture OUT
 //!     compare fuzz --seconds N [--seed S]
 //!     compare cells
@@ -13,8 +13,8 @@
 //! difference, which it tells in the smallest form that it finds.
 //!
 //! `bench` times both sides, `fixture` writes answers for another program to replay, zeno's and, for
-//! refusals, the reading's, `fuzz` throws damaged and random calls at the port with marks around all
-//! that it lends, `cells` prints zeno's cells of the worked examples in the rules.
+//! refusals and coordinates cut, the reading's, `fuzz` throws damaged and random calls at the port with
+//! marks around all that it lends, `cells` prints zeno's cells of the worked examples in the rules.
 
 mod bench;
 mod face;

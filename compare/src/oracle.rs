@@ -6,6 +6,7 @@
 use std::rc::Rc;
 use std::slice;
 
+use crate::list;
 use crate::zeno::path_data;
 use crate::zeno::raster::{Cell, FixedPoint, RasterStorage, Rasterizer};
 
@@ -161,28 +162,24 @@ pub fn bounds(path: &[Command], transform: Transform) -> Bounds {
     path_data::bounds(path, transform)
 }
 
-/// Whether zeno ends and stays defined: sizes of at most `SIDE`, a pitch of at least the width, and
-/// every point, transformed and moved, within `REACH`.
-pub fn may_be_asked(label: &Label) -> bool {
-    let sizes = label.width <= SIDE && label.height <= SIDE && label.pitch >= label.width;
-    sizes
-        && label
-            .path
-            .iter()
-            .all(|command| within_reach(label, command))
+/// A path's points, control points included, as the rasterizer cuts them to fixed numbers: transformed
+/// and then moved.
+pub fn points(
+    path: &[Command],
+    transform: Transform,
+    offset: Vector,
+) -> impl Iterator<Item = Point> + '_ {
+    let points = path.iter().flat_map(|command| list::parts(command).1);
+    points.map(move |point| transform.transform_point(point) + offset)
 }
 
-fn within_reach(label: &Label, command: &Command) -> bool {
-    let near = |p: Point| {
-        let p = p + label.offset;
-        (p.x * 256.0).abs() < REACH + 1.0 && (p.y * 256.0).abs() < REACH + 1.0
-    };
-    match command.transform(&label.transform) {
-        Command::MoveTo(p) | Command::LineTo(p) => near(p),
-        Command::QuadTo(c, p) => near(c) && near(p),
-        Command::CurveTo(c1, c2, p) => near(c1) && near(c2) && near(p),
-        Command::Close => true,
-    }
+/// Whether zeno ends and stays defined: sizes of at most `SIDE`, a pitch of at least the width, and
+/// every point within `REACH`.
+pub fn may_be_asked(label: &Label) -> bool {
+    let sizes = label.width <= SIDE && label.height <= SIDE && label.pitch >= label.width;
+    let near = |part: f32| (part * 256.0).abs() < REACH + 1.0;
+    let mut points = points(label.path, label.transform, label.offset);
+    sizes && points.all(|point| near(point.x) && near(point.y))
 }
 
 fn rasterize(label: &Label, storage: &mut impl RasterStorage) -> Option<Vec<u8>> {

@@ -1,6 +1,7 @@
 //! One call of bounds or of a placement, and calls drawn from the dice.
 
 use crate::drawing::{floats_shown, odd_offset, odd_transform, simpler_floats};
+use crate::grid::{beside_the_grid, each_float, Moved};
 use crate::list;
 use crate::numbers::{Dice, Palette};
 use crate::oracle::{Command, Origin, Point, Transform};
@@ -63,6 +64,27 @@ pub fn any_placing(dice: &mut Dice) -> Placing {
         _ => {}
     }
     placing
+}
+
+/// A list on the grid of 1/256 and beside it; a few are refused.
+pub fn placing_beside_the_grid(_: u64, dice: &mut Dice) -> Placing {
+    let mut placing = moved(&beside_the_grid(dice));
+    placing.origin = dice.pick(&[Origin::TopLeft, Origin::BottomLeft]);
+    match dice.below(64) {
+        0 => placing.list = damaged(&placing.list, dice),
+        1 => spoil_a_float(&mut placing, dice),
+        _ => {}
+    }
+    placing
+}
+
+/// The point of this number.
+pub fn placing_of_each_float(number: u64, dice: &mut Dice) -> Placing {
+    moved(&each_float(number, dice))
+}
+
+fn moved(moved: &Moved) -> Placing {
+    placing(&moved.path, moved.transform, moved.offset)
 }
 
 fn placing(path: &[Command], transform: Transform, offset: Point) -> Placing {

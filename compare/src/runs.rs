@@ -3,20 +3,26 @@
 use std::time::Instant;
 
 use crate::kinds::{bands::Bands, boxes::Boxes, lists::Lists, maps, placements::Placements};
-use crate::kinds::{cells, drawings, filled, in_bands, lost_moves, no_room, run, stores, Kind};
+use crate::kinds::{
+    cells, cuts, drawings, filled, in_bands, lost_moves, no_room, run, stores, Kind,
+};
 use compare::boundaries;
 use compare::drawing::{
-    at_a_boundary, at_the_cap, at_the_limits, every_order, every_short_list, in_bands_at_the_cap,
+    at_a_boundary, at_the_cap, at_the_limits, cuts_at_once, cuts_in_a_band, cuts_in_bands,
+    cuts_of_each_float, cuts_on_a_label, every_order, every_short_list, in_bands_at_the_cap,
     in_bands_of_full_rows, long_rows_filled, no_room_at_once, no_room_for_a_band, no_room_in_bands,
     orders_in_all, ordinary, rows_filled, short_lists_in_all, with_just_room, with_room_for_bands,
 };
 use compare::flags::Flags;
+use compare::grid::floats_in_all;
 use compare::oracle::{Fill, Origin};
 use compare::paths::Character;
+use compare::placing::{placing_beside_the_grid, placing_of_each_float};
 use compare::stores::{
     every_sequence, long_rows_stored, of_a_drawing, rows_stored, sequences_in_all,
     stored_at_the_cap, wild_stores,
 };
+use cuts::{Cuts, PlacedCuts};
 use drawings::{Boundaries, Drawings, SmallDrawings};
 use filled::Filled;
 use in_bands::InBands;
@@ -42,11 +48,12 @@ struct Run<'a> {
 type Group = fn(&mut Run) -> Result<(), String>;
 
 /// The groups by name, in the order of their running; the last take longest.
-const GROUPS: [(&str, Group); 11] = [
+const GROUPS: [(&str, Group); 12] = [
     ("maps", maps),
     ("boxes", boxes),
     ("placements", placements),
     ("lists", lists),
+    ("cuts", cuts),
     ("rows", rows),
     ("stores", stores),
     ("drawings", drawings),
@@ -148,6 +155,40 @@ fn placements(run: &mut Run) -> Result<(), String> {
 fn lists(run: &mut Run) -> Result<(), String> {
     run.scaled(&Lists::Bounds, 1_000_000)?;
     run.scaled(&Lists::Placement, 1_000_000)
+}
+
+/// How many coordinates are cut.
+fn cuts(run: &mut Run) -> Result<(), String> {
+    let floats = 40 * floats_in_all();
+    let placed = [
+        (
+            "cuts: floats of every kind, placed",
+            placing_of_each_float as fn(u64, &mut _) -> _,
+            floats,
+        ),
+        ("cuts: placements", placing_beside_the_grid, 1_000_000),
+    ];
+    for (name, make, count) in placed {
+        run.scaled(&PlacedCuts { name, make }, count)?;
+    }
+    let drawn = [
+        (
+            "cuts: floats of every kind, drawn",
+            cuts_of_each_float as fn(u64, &mut _) -> _,
+            floats,
+        ),
+        ("cuts: at once", cuts_at_once, 600_000),
+        ("cuts: for a band alone", cuts_in_a_band, 600_000),
+        ("cuts: in bands by one call", cuts_in_bands, 400_000),
+    ];
+    for (name, make, count) in drawn {
+        run.scaled(&Cuts { name, make }, count)?;
+    }
+    let bands = Bands {
+        name: "cuts: the same in every band",
+        make: cuts_on_a_label,
+    };
+    run.scaled(&bands, 200_000)
 }
 
 fn cells(run: &mut Run) -> Result<(), String> {
@@ -275,7 +316,11 @@ fn refusals(run: &mut Run) -> Result<(), String> {
 }
 
 fn bands(run: &mut Run) -> Result<(), String> {
-    run.scaled(&Bands, 120_000)?;
+    let whole = Bands {
+        name: "bands of whole labels",
+        make: ordinary,
+    };
+    run.scaled(&whole, 120_000)?;
     let kinds = [
         (
             "labels drawn in bands by one call, with just room or just not",

@@ -45,7 +45,7 @@ pub fn shorter_numbers(numbers: &[f32], size: usize) -> Vec<Vec<f32>> {
     shorter.filter(|c| c.len() < numbers.len()).collect()
 }
 
-/// Shorter lengths of what is lent, the boldest first.
+/// Shorter lengths, the boldest first.
 pub fn shorter_lengths(length: usize) -> Vec<usize> {
     let candidates = [length / 2, length - length / 8, length.saturating_sub(1)];
     let shorter = candidates.into_iter();

@@ -3,7 +3,7 @@
 
 use crate::alone;
 use crate::drawing::{Drawing, Way};
-use crate::driver::{outcome, outcome_in};
+use crate::driver::{outcome, outcome_in, Outcome};
 use crate::oracle::{Fill, Point, Transform};
 
 const LIST: &[u8] = include_bytes!("../../bindings/worked/slanted.mzp");
@@ -32,8 +32,32 @@ fn slanted(fill: Fill, words: usize) -> Drawing {
 fn the_stored_masks_are_zenos() {
     for (fill, mask) in [(Fill::EvenOdd, EVEN_ODD), (Fill::NonZero, NONZERO)] {
         let drawn = outcome(&slanted(fill, 1000));
-        assert_eq!((drawn.number, drawn.records, drawn.cells), (0, 12, 93));
+        assert_eq!(counts(&drawn), (0, 12, 93, 0));
         assert_eq!(drawn.mask, mask, "{fill:?}");
+    }
+}
+
+/// The number, records, cells and coordinates cut.
+fn counts(drawn: &Outcome) -> (u8, usize, usize, usize) {
+    (drawn.number, drawn.records, drawn.cells, drawn.cut)
+}
+
+/// Moved off the grid by so many 1024ths in x and y: coordinates are cut, and zeno draws what it drew.
+#[test]
+fn off_the_grid_the_masks_stay() {
+    let moved = [
+        (1.0, 0.0, 13),
+        (0.0, 3.0, 13),
+        (1.0, 3.0, 26),
+        (2.0, 1.0, 26),
+    ];
+    for fill in [Fill::EvenOdd, Fill::NonZero] {
+        for (x, y, cut) in moved {
+            let mut off = slanted(fill, 1000);
+            off.offset = off.offset + Point::new(x / 1024.0, y / 1024.0);
+            let on_grid = outcome(&slanted(fill, 1000));
+            assert_eq!(outcome(&off), Outcome { cut, ..on_grid });
+        }
     }
 }
 
@@ -104,7 +128,7 @@ fn the_stored_pictures_are_zenos() {
             ..slanted(fill, 1000)
         };
         let drawn = outcome(&whole);
-        assert_eq!((drawn.number, drawn.records, drawn.cells), (0, 12, 115));
+        assert_eq!(counts(&drawn), (0, 12, 115, 0));
         assert_eq!(drawn.mask, mask, "{fill:?}");
     }
 }
@@ -116,8 +140,8 @@ fn checksum(bytes: &[u8]) -> u64 {
     })
 }
 
-/// The numbers that bindings/rust/tests/face/pictures.rs has of the example at two sizes: cells,
-/// checksum, and what it is at once.
+/// The numbers that bindings/rust/tests/face/pictures.rs has of the example at two sizes: records,
+/// cells, checksum, and what it is at once; no coordinate is cut.
 #[test]
 fn the_examples_checksums_are_zenos() {
     let sizes = [
@@ -140,7 +164,7 @@ fn the_examples_checksums_are_zenos() {
             ..slanted(Fill::NonZero, height + 4 * 16_384)
         };
         let drawn = outcome_in(&label, Way::InBands(height / 2));
-        assert_eq!((drawn.number, drawn.cells), (0, cells));
+        assert_eq!(counts(&drawn), (0, 1_251, cells, 0));
         assert_eq!(checksum(&drawn.mask), sum);
         let drawn = outcome(&label);
         assert_eq!((drawn.number, drawn.index), at_once);

@@ -20,6 +20,18 @@ pub enum Command {
     Close,
 }
 
+impl Command {
+    pub(crate) fn kind(self) -> Kind {
+        match self {
+            Command::MoveTo(_) => Kind::MoveTo,
+            Command::LineTo(_) => Kind::LineTo,
+            Command::QuadTo(..) => Kind::QuadTo,
+            Command::CurveTo(..) => Kind::CurveTo,
+            Command::Close => Kind::Close,
+        }
+    }
+}
+
 /// The kinds of record.
 #[derive(Clone, Copy, Debug, PartialEq)]
 pub(crate) enum Kind {
@@ -49,15 +61,19 @@ impl Kind {
         })
     }
 
-    /// How many bytes a record of this kind has.
-    fn bytes(self) -> usize {
-        let points = match self {
+    /// How many points a record of this kind has.
+    pub(crate) fn points(self) -> usize {
+        match self {
             Kind::MoveTo | Kind::LineTo => 1,
             Kind::QuadTo => 2,
             Kind::CurveTo => 3,
             Kind::Close => 0,
-        };
-        HEADER + POINT * points
+        }
+    }
+
+    /// How many bytes it has.
+    fn bytes(self) -> usize {
+        HEADER + POINT * self.points()
     }
 
     /// The number in a record's first two bytes.

@@ -37,6 +37,7 @@ struct MzDrawn {
     index: u32,
     records: u32,
     cells: u32,
+    cut: u32,
 }
 
 #[repr(C)]
@@ -59,6 +60,7 @@ struct MzPlacement {
     top: i32,
     width: u32,
     height: u32,
+    cut: u32,
 }
 
 /// A struct has its size and its fields their offsets, as mosszephyr.h asserts them.
@@ -75,10 +77,10 @@ laid_out!(Point, 8, x 0, y 4);
 laid_out!(Transform, 24, xx 0, xy 4, yx 8, yy 12, x 16, y 20);
 laid_out!(MzLabel, 80, transform 0, offset_x 24, offset_y 28, even_odd 32, up 33,
     width 40, height 48, pitch 56, first 64, end 72);
-laid_out!(MzDrawn, 16, number 0, index 4, records 8, cells 12);
+laid_out!(MzDrawn, 20, number 0, index 4, records 8, cells 12, cut 16);
 laid_out!(MzBounds, 24, number 0, index 4, min_x 8, min_y 12, max_x 16, max_y 20);
-laid_out!(MzPlacement, 32, number 0, index 4, offset_x 8, offset_y 12, left 16, top 20,
-    width 24, height 28);
+laid_out!(MzPlacement, 36, number 0, index 4, offset_x 8, offset_y 12, left 16, top 20,
+    width 24, height 28, cut 32);
 
 #[link(name = "mosszephyr", kind = "static")]
 extern "C" {
@@ -208,6 +210,7 @@ pub fn placement(
         top: placed.top,
         width: placed.width as usize,
         height: placed.height as usize,
+        cut: placed.cut as usize,
     })
 }
 
@@ -277,6 +280,7 @@ fn counts(drawn: MzDrawn, list: &[u8]) -> Result<Drawn, Refusal> {
     Ok(Drawn {
         records: drawn.records as usize,
         cells: drawn.cells as usize,
+        cut: drawn.cut as usize,
     })
 }
 

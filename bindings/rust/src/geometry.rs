@@ -193,6 +193,9 @@ pub struct Placement {
     pub width: usize,
     /// The mask's height.
     pub height: usize,
+    /// How many coordinates of the path are cut with the offset that was given: see
+    /// [`Drawn`](crate::Drawn).
+    pub cut: usize,
 }
 
 /// The box of all transformed points of a path, control points included; zeros for an empty path.

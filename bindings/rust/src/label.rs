@@ -58,12 +58,32 @@ impl Label {
 }
 
 /// What an accepted drawing counts.
+///
+/// A label is drawn on a grid of 1/256 of a pixel. A coordinate, transformed and moved by the offset,
+/// is cut where it times 256 is no whole number. An edge at 2.9999, meant for 3, then falls short of
+/// that and shows soft:
+///
+/// ```
+/// use mosszephyr::{draw, Label, Path};
+///
+/// let mut path = Path::new();
+/// path.move_to((1.0, 1.0)).line_to((2.9999, 1.0)).line_to((2.9999, 2.0)).line_to((1.0, 2.0));
+/// let picture = draw(&path, &Label::new(4, 3))?;
+/// assert_eq!(picture.row(1), [0, 255, 254, 0]);
+/// assert_eq!((picture.cut(), path.coordinates()), (2, 8));
+/// # Ok::<(), mosszephyr::Refusal>(())
+/// ```
 #[derive(Clone, Copy, Debug, PartialEq, Eq, Hash)]
 pub struct Drawn {
     /// How many records the path has.
     pub records: usize,
     /// How many distinct places (column, row) the drawing stored.
     pub cells: usize,
+    /// How many coordinates of the path were cut: x and y apart, control points too, and a point as
+    /// often as the path has it. It is the whole path's, whatever rows are drawn, and so the same for
+    /// every band of a label, also for one of no rows. 0 says that the step to the grid changed
+    /// nothing.
+    pub cut: usize,
 }
 
 /// How many bytes a mask needs for `rows` rows: pitch · (rows − 1) + width, and 0 for no rows.
@@ -191,7 +211,7 @@ pub fn draw_band(
 /// let refusal = draw_band(&path, &label, 0..3, &mut mask, &mut words).unwrap_err();
 /// assert_eq!((refusal.number(), refusal.record(), mask), (13, Some(2), [7; 12]));
 /// let drawn = draw_in_bands(&path, &label, 0..3, 1, &mut mask, &mut words)?;
-/// assert_eq!(drawn, Drawn { records: 4, cells: 6 });
+/// assert_eq!(drawn, Drawn { records: 4, cells: 6, cut: 0 });
 /// assert_eq!(mask, [0, 255, 255, 0, 0, 255, 255, 0, 0, 255, 255, 0]);
 /// # Ok::<(), Refusal>(())
 /// ```

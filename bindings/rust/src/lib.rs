@@ -9,6 +9,7 @@
 //! | draw many labels, with nothing allocated | [`Workspace::draw`] |
 //! | print a label band by band from a small buffer | [`Workspace::bands`] |
 //! | know where a path lies, and how large a label holds it | [`bounds`], [`placement`] |
+//! | know whether artwork lies off the grid, and shows soft edges | [`Picture::cut`], [`Drawn::cut`], [`Bands::cut`], [`Placement::cut`] |
 //! | call the library's two drawings as they are, with memory of your own | [`draw_band`], [`draw_in_bands`] |
 //!
 //! A program that draws a rectangle and shows it:

@@ -115,14 +115,31 @@ impl Path {
         commands(self)
     }
 
+    /// How many coordinates the path has: two for each point, control points included. Of bytes that
+    /// are no list, those before the record at fault. How many of them lie off the grid, a drawing
+    /// tells: see [`Drawn`](crate::Drawn).
+    ///
+    /// ```
+    /// use mosszephyr::Path;
+    ///
+    /// let mut path = Path::new();
+    /// path.move_to((1.0, 1.0)).quad_to((3.0, 1.0), (3.0, 3.0)).close();
+    /// assert_eq!(path.coordinates(), 6);
+    /// ```
+    #[must_use]
+    pub fn coordinates(&self) -> usize {
+        let read = self.commands().map_while(Result::ok);
+        read.map(|command| 2 * command.kind().points()).sum()
+    }
+
     /// Adds a command, whatever stands before it: see [`Path`] for what is refused after a close.
     pub fn push(&mut self, command: Command) -> &mut Path {
+        let kind = command.kind();
         match command {
-            Command::MoveTo(p) => self.record(Kind::MoveTo, &[p]),
-            Command::LineTo(p) => self.record(Kind::LineTo, &[p]),
-            Command::QuadTo(c, p) => self.record(Kind::QuadTo, &[c, p]),
-            Command::CurveTo(c1, c2, p) => self.record(Kind::CurveTo, &[c1, c2, p]),
-            Command::Close => self.record(Kind::Close, &[]),
+            Command::MoveTo(p) | Command::LineTo(p) => self.record(kind, &[p]),
+            Command::QuadTo(c, p) => self.record(kind, &[c, p]),
+            Command::CurveTo(c1, c2, p) => self.record(kind, &[c1, c2, p]),
+            Command::Close => self.record(kind, &[]),
         }
     }
 
@@ -243,6 +260,23 @@ mod tests {
             rest = &rest[2 + usize::from(length)..];
         }
         assert!(rest.is_empty());
+    }
+
+    /// Up to a record that cannot be read, or may not stand there.
+    #[test]
+    fn coordinates_are_counted_record_by_record() {
+        let p = Point::ZERO;
+        let mut path = Path::new();
+        assert_eq!(path.coordinates(), 0);
+        assert_eq!(path.move_to(p).coordinates(), 2);
+        assert_eq!(path.line_to(p).coordinates(), 4);
+        assert_eq!(path.quad_to(p, p).coordinates(), 8);
+        assert_eq!(path.curve_to(p, p, p).coordinates(), 14);
+        assert_eq!(path.close().coordinates(), 14);
+        let cut = Path::from_bytes(&path.as_bytes()[..71]);
+        assert_eq!(cut.coordinates(), 8);
+        assert_eq!(path.line_to(p).coordinates(), 14);
+        assert_eq!(path.move_to(p).coordinates(), 14);
     }
 
     #[test]

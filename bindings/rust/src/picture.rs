@@ -75,6 +75,12 @@ impl Picture {
     pub const fn cells(&self) -> usize {
         self.drawn.cells
     }
+
+    /// How many coordinates of the path were cut: see [`Drawn`].
+    #[must_use]
+    pub const fn cut(&self) -> usize {
+        self.drawn.cut
+    }
 }
 
 /// Row y of a mask of this width, so many rows, and this pitch.
@@ -93,6 +99,7 @@ impl fmt::Debug for Picture {
             .field("pitch", &self.pitch)
             .field("records", &self.records())
             .field("cells", &self.cells())
+            .field("cut", &self.cut())
             .finish_non_exhaustive()
     }
 }

@@ -86,10 +86,11 @@ impl Workspace {
         buffer: &'a mut [u8],
     ) -> Result<Bands<'a>, Refusal> {
         let list = list.as_ref();
-        judge(list, label, buffer)?;
+        let cut = judge(list, label, buffer)?;
         Ok(Bands {
             list,
             label: *label,
+            cut,
             step: rows_held(label, buffer.len()),
             next: 0,
             buffer,
@@ -122,6 +123,7 @@ impl fmt::Debug for Workspace {
 pub struct Bands<'a> {
     list: &'a [u8],
     label: Label,
+    cut: usize,
     /// Rows of a band.
     step: usize,
     /// The first row that is not drawn yet, from the picture's top.
@@ -131,6 +133,12 @@ pub struct Bands<'a> {
 }
 
 impl Bands<'_> {
+    /// How many coordinates of the path are cut, before a row is printed: see [`Drawn`].
+    #[must_use]
+    pub const fn cut(&self) -> usize {
+        self.cut
+    }
+
     /// Draws the next band and lends it, from the picture's top on; nothing behind the last.
     ///
     /// # Panics
@@ -262,16 +270,15 @@ fn lacks_room(drawn: &Result<Drawn, Refusal>) -> bool {
     matches!(drawn, Err(Refusal::Room { .. }))
 }
 
-/// Refusals 1, 3, 4, 6 to 12 and 18 of a label that is to be drawn into a buffer of some of its rows.
+/// Refusals 1, 3, 4, 6 to 12 and 18 of a label that is to be drawn into a buffer of some of its rows,
+/// or how many coordinates are cut.
 ///
-/// Asked with the first row, so that 4 is judged and has its place among the others. One word for
-/// one row leaves no pool: 13 says no more than that there is ink.
-fn judge(list: &[u8], label: &Label, buffer: &mut [u8]) -> Result<(), Refusal> {
-    let rows = label.height.min(1);
-    match face::draw(list, label, 0..rows, buffer, &mut [0; 1][..rows]) {
-        Ok(_) | Err(Refusal::Room { .. }) => Ok(()),
-        Err(refusal) => Err(refusal),
-    }
+/// Asked with no rows, which are never 13; and with the first where the buffer does not hold it, so
+/// that 4 has its place among the others.
+fn judge(list: &[u8], label: &Label, buffer: &mut [u8]) -> Result<usize, Refusal> {
+    let rows = usize::from(label.height > 0 && buffer.len() < label.width);
+    let drawn = face::draw(list, label, 0..rows, buffer, &mut [0; 1][..rows])?;
+    Ok(drawn.cut)
 }
 
 /// How many rows of an accepted label a buffer holds, up to all of them.

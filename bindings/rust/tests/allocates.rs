@@ -95,7 +95,7 @@ fn lent_memory_is_enough() {
         draw_in_bands(&path, &label, 0..60, 30, &mut mask, &mut words).unwrap();
         bounds(&path, identity).unwrap();
         placement(&path, identity, Point::ZERO, Origin::TopLeft).unwrap();
-        assert_eq!(path.commands().count(), 601);
+        assert_eq!((path.commands().count(), path.coordinates()), (601, 1202));
     });
     assert_eq!(drawing, 0);
 }

@@ -5,6 +5,7 @@ use std::ops::Range;
 use super::{old, ordinary, soil, Drawing};
 use crate::driver;
 use crate::numbers::Dice;
+use crate::shrink::{shorter_lengths, Candidates};
 
 /// All rows at once, or so many at a time; none counts as one.
 #[derive(Clone, Copy, Debug, PartialEq)]
@@ -23,6 +24,25 @@ impl Way {
         };
         let starts = (0..rows).step_by(step);
         starts.map(move |first| first..first.saturating_add(step).min(rows))
+    }
+}
+
+/// Simpler calls, first those of narrower bands.
+pub fn simpler_in((call, way): &(Drawing, Way)) -> Candidates<'_, (Drawing, Way)> {
+    let steps = match *way {
+        Way::AtOnce => Vec::new(),
+        Way::InBands(step) => shorter_lengths(step),
+    };
+    let narrower = steps.into_iter().map(Way::InBands);
+    let narrower = narrower.map(|way| (call.clone(), way));
+    Box::new(narrower.chain(call.simpler().map(|call| (call, *way))))
+}
+
+/// A call and its way in words.
+pub fn shown_in((call, way): &(Drawing, Way)) -> String {
+    match way {
+        Way::AtOnce => format!("{}  at once\n", call.shown()),
+        Way::InBands(step) => format!("{}  in bands of {step}\n", call.shown()),
     }
 }
 
@@ -69,6 +89,7 @@ pub fn with_room_for_bands(dice: &mut Dice) -> (Drawing, usize) {
 #[cfg(test)]
 mod tests {
     use super::*;
+    use crate::shrink::smallest;
 
     #[test]
     fn bands_are_the_rows_cut() {
@@ -78,6 +99,19 @@ mod tests {
         for way in [Way::AtOnce, Way::InBands(3), Way::InBands(usize::MAX)] {
             assert_eq!(bands(way, 3).len(), 1);
             assert_eq!(bands(way, 0), []);
+        }
+    }
+
+    /// A case made small keeps its way, in the narrowest bands.
+    #[test]
+    fn shrinking_ends() {
+        let mut dice = Dice::new(53);
+        for (way, least) in [
+            (Way::AtOnce, Way::AtOnce),
+            (Way::InBands(usize::MAX), Way::InBands(0)),
+        ] {
+            let call = smallest((ordinary(&mut dice), way), simpler_in, |_| true);
+            assert!(call.0.list.is_empty() && call.1 == least);
         }
     }
 

@@ -2,17 +2,19 @@
 
 use super::MzTransform;
 use compare::drawing::Drawing;
+use compare::driver::PlacedList;
 use compare::oracle::{Bounds, Fill, Origin, Placement, Point};
 use compare::placing::Placing;
 
 /// What a drawing answers.
 #[repr(C)]
-#[derive(Clone, Copy, Debug, PartialEq, Eq)]
+#[derive(Clone, Copy, Debug, Default, PartialEq, Eq)]
 pub struct Drawn {
     pub number: u32,
     pub index: u32,
     pub records: u32,
     pub cells: u32,
+    pub cut: u32,
 }
 
 #[repr(C)]
@@ -37,6 +39,7 @@ struct MzPlacement {
     top: i32,
     width: u32,
     height: u32,
+    cut: u32,
 }
 
 /// A call's numbers, as the C face takes them.
@@ -143,8 +146,8 @@ pub fn bounds(call: &Placing, list: &[u8]) -> Answer<Bounds> {
     }
 }
 
-/// The new offset and the placement of a call with this list in the place of its own.
-pub fn placement(call: &Placing, list: &[u8]) -> Answer<(Point, Placement)> {
+/// The placement of a call with this list in the place of its own.
+pub fn placement(call: &Placing, list: &[u8]) -> Answer<PlacedList> {
     // SAFETY: as for `bounds`.
     let p = unsafe {
         mz_placement(
@@ -165,7 +168,11 @@ pub fn placement(call: &Placing, list: &[u8]) -> Answer<(Point, Placement)> {
     Answer {
         number: p.number,
         index: p.index,
-        rest: (Point::new(p.offset_x, p.offset_y), place),
+        rest: PlacedList {
+            offset: Point::new(p.offset_x, p.offset_y),
+            place,
+            cut: p.cut as usize,
+        },
     }
 }
 

@@ -1,15 +1,20 @@
-//! Bands: a label cut into bands, each drawn alone, gives the whole label's rows; over a partition the
-//! cells add up.
+//! Bands: a label cut into bands, each drawn alone, gives the whole label's rows, and tells as many
+//! records and coordinates cut as the whole; over a partition the cells add up.
 
-use super::calls::{agree_on, drawn, heading_of, Called};
+use super::calls::{agree_on, agree_on_answers, drawn, heading_of, Called};
 use super::{Agreed, Kind, Verdict};
-use compare::drawing::{ordinary, soil, Drawing};
+use crate::face::Drawn;
+use compare::drawing::{soil, Drawing};
 use compare::driver;
 use compare::lent::Around;
 use compare::numbers::Dice;
 use compare::shrink::Candidates;
 
-pub struct Bands;
+/// Labels made by one function of the dice; all rows are drawn, whatever band it chose.
+pub struct Bands {
+    pub name: &'static str,
+    pub make: fn(&mut Dice) -> Drawing,
+}
 
 /// A whole label and the rows at which it is cut, rising; some are cut twice, so that a band is empty.
 #[derive(Clone)]
@@ -21,14 +26,14 @@ pub struct Cut {
 impl Kind for Bands {
     type Case = Cut;
 
-    const PARTS: Option<&'static str> = Some("bands");
+    const PARTS: &'static [&'static str] = &["bands compared"];
 
     fn name(&self) -> String {
-        "bands of whole labels".to_string()
+        self.name.to_string()
     }
 
     fn draw(&self, _: u64, dice: &mut Dice) -> Cut {
-        let mut label = ordinary(dice);
+        let mut label = (self.make)(dice);
         label = label.band(0, label.height);
         soil(&mut label, dice);
         let most = label.height.min(12) + 1;
@@ -60,7 +65,7 @@ impl Kind for Bands {
         }
         Ok(Agreed {
             heading: "accepted",
-            parts: case.cuts.len() + 1,
+            parts: vec![case.cuts.len() + 1],
         })
     }
 
@@ -93,12 +98,11 @@ fn judged(label: &Drawing, whole: &Called, first: usize, end: usize) -> Result<u
     let band = label.band(first, end);
     let told = |what: String| format!("band [{first}, {end}): {what}");
     let alone = drawn(&band, Around::Marks).map_err(told)?;
-    if alone.answer.number != 0 || alone.answer.records != whole.answer.records {
-        return Err(told(format!(
-            "{:?}, the whole {:?}",
-            alone.answer, whole.answer
-        )));
-    }
+    let but_for_cells = Drawn {
+        cells: alone.answer.cells,
+        ..whole.answer
+    };
+    agree_on_answers(&alone.answer, &but_for_cells).map_err(told)?;
     for row in 0..end - first {
         let of_whole = row_of(label, whole, first + row);
         if row_of(&band, &alone, row) != of_whole {

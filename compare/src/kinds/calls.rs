@@ -5,6 +5,7 @@ use crate::face::{self, Drawn};
 use compare::drawing::{Drawing, Way};
 use compare::driver::Outcome;
 use compare::lent::{Around, Lent, BYTE_MARK, WORD_MARK};
+use compare::reading::Refusal;
 
 /// The heading that a number of the rules counts under.
 pub fn heading_of(number: u8) -> &'static str {
@@ -72,23 +73,34 @@ pub fn keeps<T: Copy + PartialEq>(lent: &Lent<T>, what: &str) -> Result<(), Stri
 
 /// Compares everything with what it must be.
 pub fn agree_on(drawing: &Drawing, called: &Called, expected: &Outcome) -> Result<(), String> {
-    let answer = answer_of(
-        expected.number,
-        expected.index,
-        expected.records,
-        expected.cells,
-    );
+    let answer = Drawn {
+        number: u32::from(expected.number),
+        index: expected.index as u32,
+        records: expected.records as u32,
+        cells: expected.cells as u32,
+        cut: expected.cut as u32,
+    };
     agree_on_answers(&called.answer, &answer)?;
     agree_on_masks(drawing.pitch, called.mask.part(), &expected.mask)?;
     agree_on_words(called.words.part(), &expected.words)
 }
 
-pub fn answer_of(number: u8, index: usize, records: usize, cells: usize) -> Drawn {
+/// The answer of an accepted call.
+pub fn accepted(records: usize, cells: usize, cut: usize) -> Drawn {
+    Drawn {
+        records: records as u32,
+        cells: cells as u32,
+        cut: cut as u32,
+        ..Drawn::default()
+    }
+}
+
+/// The answer of a refused call: all counts are 0.
+pub fn refused(Refusal { number, index }: Refusal) -> Drawn {
     Drawn {
         number: u32::from(number),
         index: index as u32,
-        records: records as u32,
-        cells: cells as u32,
+        ..Drawn::default()
     }
 }
 

@@ -1,7 +1,7 @@
 //! The cells of a drawing as the port stores them, before they are swept: every row, column, cover and
 //! area in order, as `HeapStorage` holds them.
 
-use super::calls::{agree_on_answers, agree_on_words, answer_of, heading_of, keeps};
+use super::calls::{accepted, agree_on_answers, agree_on_words, heading_of, keeps, refused};
 use super::drawings::SmallDrawings;
 use super::{Agreed, Kind, Verdict};
 use crate::face;
@@ -20,7 +20,7 @@ pub struct Cells(pub Character);
 impl Kind for Cells {
     type Case = Drawing;
 
-    const PARTS: Option<&'static str> = Some("cells");
+    const PARTS: &'static [&'static str] = &["cells compared"];
 
     fn name(&self) -> String {
         format!("cells: {}", self.0.name())
@@ -60,7 +60,7 @@ pub struct SmallCells(pub usize, pub usize);
 impl Kind for SmallCells {
     type Case = Drawing;
 
-    const PARTS: Option<&'static str> = Some("cells");
+    const PARTS: &'static [&'static str] = &["cells compared"];
 
     fn name(&self) -> String {
         format!("cells: all small paths on {} by {}", self.0, self.1)
@@ -103,8 +103,7 @@ pub fn judged(case: &Drawing) -> Verdict {
     keeps(&words, "the workspace")?;
     match driver::drawn(case) {
         Err(refusal) => {
-            let theirs = answer_of(refusal.number, refusal.index, 0, 0);
-            agree_on_answers(&answer, &theirs)?;
+            agree_on_answers(&answer, &refused(refusal))?;
             let left = match refusal.number {
                 NO_ROOM => vec![0; case.words.len()],
                 _ => case.words.clone(),
@@ -113,13 +112,13 @@ pub fn judged(case: &Drawing) -> Verdict {
             Ok(heading_of(refusal.number).into())
         }
         Ok(drawn) => {
-            let theirs = answer_of(0, 0, drawn.records, drawn.cells.len());
+            let theirs = accepted(drawn.records, drawn.cells.len(), drawn.cut);
             agree_on_answers(&answer, &theirs)?;
             let cells = pool::walked(words.part(), case.rows(), drawn.cells.len())?;
             agree_on_cells(&cells, &drawn.cells)?;
             Ok(Agreed {
                 heading: heading_of(0),
-                parts: cells.len(),
+                parts: vec![cells.len()],
             })
         }
     }

@@ -3,6 +3,7 @@
 
 use super::calls::{agree_on, drawn, heading_of};
 use super::{Agreed, Kind, Verdict};
+use crate::face::Drawn;
 use compare::boundaries::Boundary;
 use compare::drawing::{soil, Drawing};
 use compare::driver;
@@ -21,7 +22,7 @@ pub struct Drawings {
 impl Kind for Drawings {
     type Case = Drawing;
 
-    const PARTS: Option<&'static str> = Some("pixels");
+    const PARTS: &'static [&'static str] = &["pixels compared"];
 
     fn name(&self) -> String {
         self.name.to_string()
@@ -49,14 +50,13 @@ pub fn judged(case: &Drawing) -> Verdict {
     let expected = driver::outcome(case);
     let called = drawn(case, Around::Marks)?;
     agree_on(case, &called, &expected)?;
-    let accepted = expected.number == 0;
+    let pixels = match expected.number {
+        0 => case.width * case.rows(),
+        _ => 0,
+    };
     Ok(Agreed {
         heading: heading_of(expected.number),
-        parts: if accepted {
-            case.width * case.rows()
-        } else {
-            0
-        },
+        parts: vec![pixels],
     })
 }
 
@@ -103,7 +103,7 @@ impl SmallDrawings {
 impl Kind for SmallDrawings {
     type Case = Drawing;
 
-    const PARTS: Option<&'static str> = Some("pixels");
+    const PARTS: &'static [&'static str] = &["pixels compared"];
 
     fn name(&self) -> String {
         "drawings of all small paths".to_string()
@@ -146,18 +146,21 @@ impl Kind for Boundaries {
         self.0[number as usize].clone()
     }
 
-    /// By the number and index written down for it, then whole.
+    /// By what is written down for it, then whole.
     fn judge(&self, case: &Boundary) -> Verdict {
-        let called = drawn(&case.drawing, Around::Marks)?;
-        let ours = (called.answer.number, called.answer.index as usize);
-        let told = (u32::from(case.number), case.index);
+        let Drawn {
+            number, index, cut, ..
+        } = drawn(&case.drawing, Around::Marks)?.answer;
+        let ours = (number, index as usize, cut as usize);
+        let cut = case.cut.unwrap_or(ours.2);
+        let told = (u32::from(case.number), case.index, cut);
         if ours != told {
             return Err(format!(
-                "number, index: the port {ours:?}, the rule {told:?}"
+                "number, index, cut: the port {ours:?}, the rule {told:?}"
             ));
         }
         Ok(Agreed {
-            parts: 0,
+            parts: Vec::new(),
             ..judged(&case.drawing)?
         })
     }

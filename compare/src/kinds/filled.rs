@@ -15,7 +15,7 @@ pub struct Filled {
 impl Kind for Filled {
     type Case = Drawing;
 
-    const PARTS: Option<&'static str> = Some("cells");
+    const PARTS: &'static [&'static str] = &["cells compared"];
 
     fn name(&self) -> String {
         self.name.to_string()

@@ -26,7 +26,7 @@ pub fn beside_a_boundary(dice: &mut Dice) -> (Drawing, usize) {
 impl Kind for InBands {
     type Case = (Drawing, usize);
 
-    const PARTS: Option<&'static str> = Some("pixels");
+    const PARTS: &'static [&'static str] = &["pixels compared"];
 
     fn name(&self) -> String {
         self.name.to_string()
@@ -47,7 +47,7 @@ impl Kind for InBands {
         };
         Ok(Agreed {
             heading: heading(label, *step, &expected),
-            parts: pixels,
+            parts: vec![pixels],
         })
     }
 

@@ -1,13 +1,13 @@
-//! Bounds and placements of lists: refusals as the reading has them, everything else zeno's bit for
-//! bit.
+//! Bounds and placements of lists: refusals and how many coordinates are cut as the reading has them,
+//! everything else zeno's bit for bit.
 
 use super::calls::{heading_of, keeps};
 use super::{agree, Kind, Verdict};
 use crate::face::{self, Answer};
-use compare::driver;
+use compare::driver::{self, PlacedList};
 use compare::lent::{Around, Lent, BYTE_MARK};
 use compare::numbers::Dice;
-use compare::oracle::{Bounds, Placement, Point};
+use compare::oracle::{Bounds, Placement};
 use compare::placing::{any_placing, Placing};
 use compare::reading::Refusal;
 use compare::shrink::Candidates;
@@ -33,12 +33,10 @@ impl Kind for Lists {
     }
 
     fn judge(&self, case: &Placing) -> Verdict {
-        let list = Lent::new(&case.list, BYTE_MARK, Around::Marks);
         let number = match self {
-            Lists::Bounds => judged_bounds(case, list.part())?,
-            Lists::Placement => judged_placement(case, list.part())?,
+            Lists::Bounds => judged_bounds(case)?,
+            Lists::Placement => judged_placement(case)?.0,
         };
-        keeps(&list, "the list")?;
         Ok(heading_of(number).into())
     }
 
@@ -51,8 +49,16 @@ impl Kind for Lists {
     }
 }
 
-fn judged_bounds(case: &Placing, list: &[u8]) -> Result<u8, String> {
-    let ours = face::bounds(case, list);
+/// What the port answers for a call whose list stands between marks.
+fn asked<T>(case: &Placing, ask: fn(&Placing, &[u8]) -> T) -> Result<T, String> {
+    let list = Lent::new(&case.list, BYTE_MARK, Around::Marks);
+    let answer = ask(case, list.part());
+    keeps(&list, "the list")?;
+    Ok(answer)
+}
+
+fn judged_bounds(case: &Placing) -> Result<u8, String> {
+    let ours = asked(case, face::bounds)?;
     let (theirs, number) = answered(driver::bounds(&case.list, case.transform));
     agree_on_numbers(&ours, number)?;
     agree(
@@ -64,14 +70,14 @@ fn judged_bounds(case: &Placing, list: &[u8]) -> Result<u8, String> {
     Ok(number.number)
 }
 
-fn judged_placement(case: &Placing, list: &[u8]) -> Result<u8, String> {
-    let ours = face::placement(case, list);
+/// Answers the number and how many coordinates are cut.
+pub fn judged_placement(case: &Placing) -> Result<(u8, usize), String> {
+    let ours = asked(case, face::placement)?;
     let placed = driver::placement(&case.list, case.transform, case.offset, case.origin);
-    let ((offset, place), number) = answered(placed);
+    let (theirs, number) = answered(placed);
     agree_on_numbers(&ours, number)?;
-    let (our_offset, our_place) = ours.rest;
-    agree_on_placements((our_offset, our_place), (offset, place))?;
-    Ok(number.number)
+    agree_on_placements(&ours.rest, &theirs)?;
+    Ok((number.number, theirs.cut))
 }
 
 /// The answer and its number; where it is refused all the rest is 0.
@@ -97,17 +103,26 @@ fn agree_on_numbers<T>(ours: &Answer<T>, theirs: Refusal) -> Result<(), String> 
     ))
 }
 
-fn agree_on_placements(ours: (Point, Placement), theirs: (Point, Placement)) -> Result<(), String> {
-    let offset = |p: Point| [p.x, p.y];
+fn agree_on_placements(ours: &PlacedList, theirs: &PlacedList) -> Result<(), String> {
+    let offset = |p: &PlacedList| [p.offset.x, p.offset.y];
     let names = ["offset x", "offset y"];
-    agree("zeno", &names, &offset(ours.0), &offset(theirs.0))?;
+    agree("zeno", &names, &offset(ours), &offset(theirs))?;
     let whole = |p: Placement| (p.left, p.top, p.width, p.height);
-    let (ours, theirs) = (whole(ours.1), whole(theirs.1));
+    let (our_place, their_place) = (whole(ours.place), whole(theirs.place));
+    if our_place != their_place {
+        return Err(format!(
+            "left, top, width, height: the port {our_place:?}, zeno {their_place:?}"
+        ));
+    }
+    agree_on_cuts(ours.cut, theirs.cut)
+}
+
+pub fn agree_on_cuts(ours: usize, theirs: usize) -> Result<(), String> {
     if ours == theirs {
         return Ok(());
     }
     Err(format!(
-        "left, top, width, height: the port {ours:?}, zeno {theirs:?}"
+        "coordinates cut: the port {ours}, the rule {theirs}"
     ))
 }
 

@@ -16,7 +16,7 @@ pub struct LostMoves;
 impl Kind for LostMoves {
     type Case = Drawing;
 
-    const PARTS: Option<&'static str> = Some("pixels");
+    const PARTS: &'static [&'static str] = &["pixels compared"];
 
     fn name(&self) -> String {
         "drawings with a MoveTo lost behind a Close".to_string()

@@ -5,7 +5,7 @@
 use super::calls::{agree_on, drawn_in, heading_of};
 use super::{Kind, Verdict};
 use compare::alone::{self, Full};
-use compare::drawing::{rule_shown, Drawing, Way};
+use compare::drawing::{rule_shown, shown_in, simpler_in, Drawing, Way};
 use compare::driver;
 use compare::lent::Around;
 use compare::numbers::Dice;
@@ -50,21 +50,11 @@ impl Kind for NoRoom {
         Ok(full.map_or(heading_of(0), Full::told).into())
     }
 
-    fn simpler<'a>(&self, (call, way): &'a (Drawing, Way)) -> Candidates<'a, (Drawing, Way)> {
-        let steps = match *way {
-            Way::AtOnce => Vec::new(),
-            Way::InBands(step) => (1..step).collect(),
-        };
-        let with_less = steps
-            .into_iter()
-            .map(|less| (call.clone(), Way::InBands(less)));
-        Box::new(with_less.chain(call.simpler().map(|call| (call, *way))))
+    fn simpler<'a>(&self, case: &'a (Drawing, Way)) -> Candidates<'a, (Drawing, Way)> {
+        simpler_in(case)
     }
 
-    fn show(&self, (call, way): &(Drawing, Way)) -> String {
-        match way {
-            Way::AtOnce => format!("{}  at once\n", call.shown()),
-            Way::InBands(step) => format!("{}  in bands of {step}\n", call.shown()),
-        }
+    fn show(&self, case: &(Drawing, Way)) -> String {
+        shown_in(case)
     }
 }

@@ -20,7 +20,7 @@ pub struct Stores {
 impl Kind for Stores {
     type Case = stores::Stores;
 
-    const PARTS: Option<&'static str> = Some("cells");
+    const PARTS: &'static [&'static str] = &["cells compared"];
 
     fn name(&self) -> String {
         self.name.to_string()
@@ -58,7 +58,7 @@ impl Kind for Stores {
                 let is_full = case.places() == Some(cells.len());
                 Ok(Agreed {
                     heading: if is_full { "just full" } else { "room left" },
-                    parts: cells.len(),
+                    parts: vec![cells.len()],
                 })
             }
         }

@@ -2,6 +2,7 @@
 //! picture. usage.txt tells its words. Exits with 1 where the label is refused, with 2 where anything
 //! else fails.
 
+mod off_grid;
 mod pgm;
 mod screen;
 mod words;
@@ -13,6 +14,7 @@ use std::{env, fmt, fs, io};
 
 use mosszephyr::{draw, placement, Label, Origin, Picture, Point, Refusal, Transform};
 
+use off_grid::off_grid;
 use pgm::pgm;
 use screen::Screen;
 use words::{asked, Asked, Out, Request};
@@ -50,7 +52,8 @@ fn main() -> ExitCode {
 /// The label is drawn at its own size first, so that the terminal shows none that would be refused.
 fn run(request: &Request) -> Result<(), Failure> {
     let name = shown(&request.list);
-    let list = fs::read(&request.list).map_err(|error| Failure::File(name.clone(), error))?;
+    let bytes = fs::read(&request.list).map_err(|error| Failure::File(name.clone(), error))?;
+    let list = mosszephyr::Path::from(bytes);
     let refused = |refusal| Failure::Refused(name.clone(), refusal);
     let frame = Frame::of(&list, request.size).map_err(refused)?;
     let picture = draw(&list, &frame.label(1.0, frame.width, frame.height))
@@ -59,23 +62,24 @@ fn run(request: &Request) -> Result<(), Failure> {
         return Err(Failure::Empty(name));
     }
     let drawn = frame.report(&name, &picture);
+    let off_grid = off_grid(&name, picture.cut(), list.coordinates());
     match &request.out {
         Out::Screen => {
             let screen = Screen::of_environment();
             let seen = draw(&list, &frame.seen_on(&screen)).map_err(refused)?;
             let (width, height) = (seen.width(), seen.height());
             to_stdout(screen.lines(seen.mask(), width, request.ink).as_bytes())?;
-            eprintln!("{drawn}, shown as {width} x {height}");
+            eprint!("{drawn}, shown as {width} x {height}\n{off_grid}");
         }
         Out::Stdout => {
             to_stdout(&pgm(picture.mask(), frame.width, request.ink))?;
-            eprintln!("{drawn}, written to standard output");
+            eprint!("{drawn}, written to standard output\n{off_grid}");
         }
         Out::File(out) => {
             let out_name = shown(out);
             fs::write(out, pgm(picture.mask(), frame.width, request.ink))
                 .map_err(|error| Failure::File(out_name.clone(), error))?;
-            to_stdout(format!("{drawn}, written to {out_name}\n").as_bytes())?;
+            to_stdout(format!("{drawn}, written to {out_name}\n{off_grid}").as_bytes())?;
         }
     }
     Ok(())
@@ -83,7 +87,7 @@ fn run(request: &Request) -> Result<(), Failure> {
 
 impl Frame {
     /// A given size from zero on, or what the list's own placement asks for.
-    fn of(list: &[u8], size: Option<(usize, usize)>) -> Result<Frame, Refusal> {
+    fn of(list: &mosszephyr::Path, size: Option<(usize, usize)>) -> Result<Frame, Refusal> {
         if let Some((width, height)) = size {
             let offset = Point::ZERO;
             return Ok(Frame {

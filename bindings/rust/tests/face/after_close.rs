@@ -3,7 +3,7 @@
 
 use std::ops::Range;
 
-use crate::{dice, drawn, faulty_labels, k1, rectangle, JUST_BEYOND};
+use crate::{counts, dice, drawn, faulty_labels, k1, on_grid, rectangle, JUST_BEYOND};
 use mosszephyr::{
     bounds, commands, draw, draw_band, draw_in_bands, placement, Command, Label, Origin, Path,
     Point, Refusal, Transform, Workspace, MOST_LIST,
@@ -315,10 +315,10 @@ fn what_may_stand_behind_a_close_is_drawn() {
     twice.close();
     let (once, picture) = (drawn(&k1(), 4, 3), drawn(&twice, 4, 3));
     assert_eq!(picture.mask(), once.mask());
-    assert_eq!((picture.records(), picture.cells()), (6, once.cells()));
+    assert_eq!(counts(&picture), on_grid(6, once.cells()));
     let corner = rectangle(0.0, 0.0, 1.0, 1.0);
     let both = Path::from_bytes([twice.as_bytes(), corner.as_bytes()].concat());
     let picture = drawn(&both, 4, 3);
     assert_eq!(picture.mask(), [255, 0, 0, 0, 0, 255, 255, 0, 0, 0, 0, 0]);
-    assert_eq!((picture.records(), picture.cells()), (11, 4));
+    assert_eq!(counts(&picture), on_grid(11, 4));
 }

@@ -1,9 +1,9 @@
 //! Bands drawn by themselves are the whole label, cut; drawn one behind the other they are the whole.
 
-use crate::{at, k1, rectangle, round_figure, told};
+use crate::{at, counts, k1, on_grid, rectangle, round_figure, told};
 use mosszephyr::{
-    bands_words, draw, draw_band, draw_in_bands, mask_bytes, workspace_words, Drawn, Fill, Label,
-    Origin, Path,
+    bands_words, draw, draw_band, draw_in_bands, mask_bytes, workspace_words, Fill, Label, Origin,
+    Path,
 };
 
 /// A band's mask and cells, drawn into memory that holds something old.
@@ -112,12 +112,7 @@ fn in_bands_as_at_once(label: &Label, first: usize, end: usize, step: usize) {
     let (at_once, cells) = band(&path, label, first, end);
     let (mut mask, mut words) = (vec![0xA5; at_once.len()], vec![1; 41 * 30 * 4 + 30]);
     let drawn = draw_in_bands(&path, label, first..end, step, &mut mask, &mut words);
-    let records = 9;
-    assert_eq!(
-        drawn,
-        Ok(Drawn { records, cells }),
-        "{first}..{end} by {step}"
-    );
+    assert_eq!(drawn, Ok(on_grid(9, cells)), "{first}..{end} by {step}");
     assert_eq!(mask, at_once);
     assert!(words.iter().all(|&word| word == 0));
 }
@@ -130,8 +125,7 @@ fn sizes_at_their_limits_pass() {
         let count = bands_words(height, 1, 2).unwrap();
         let (mut mask, mut words) = (vec![0xA5; width * height], vec![9; count]);
         let drawn = draw_in_bands(k1(), &label, 0..height, 1, &mut mask, &mut words);
-        let (records, cells) = (5, 2);
-        assert_eq!(drawn, Ok(Drawn { records, cells }));
+        assert_eq!(drawn, Ok(on_grid(5, 2)));
         assert_eq!(mask, draw(k1(), &label).unwrap().mask());
     }
 }
@@ -145,11 +139,8 @@ fn rows_share_a_small_room() {
     let refused = draw_band(round_figure(), &label, 0..30, &mut mask, &mut words);
     assert_eq!(told(refused.unwrap_err()), at(13, 1, 12));
     assert_eq!(mask, vec![7; 1200]);
-    let drawn = draw_in_bands(round_figure(), &label, 0..30, 1, &mut mask, &mut words).unwrap();
-    assert_eq!(
-        (drawn.records, drawn.cells),
-        (whole.records(), whole.cells())
-    );
+    let drawn = draw_in_bands(round_figure(), &label, 0..30, 1, &mut mask, &mut words);
+    assert_eq!(drawn, Ok(counts(&whole)));
     assert_eq!(mask, whole.mask());
 }
 

@@ -1,9 +1,9 @@
 //! "Labels to try" of docs/RULES.md, as far as a caller can see them: K1 to K8, K11, K12, and the
 //! bytes of K9 and K10 as drawings.
 
-use crate::{at, closed, drawn, k1, rectangle, told, JUST_WITHIN};
+use crate::{at, closed, counts, drawn, k1, on_grid, rectangle, told, JUST_WITHIN};
 use mosszephyr::{
-    bounds, draw, draw_band, placement, Bounds, Drawn, Fill, Label, Origin, Path, Placement, Point,
+    bounds, draw, draw_band, placement, Bounds, Fill, Label, Origin, Path, Placement, Point,
     Refusal, Transform,
 };
 
@@ -11,7 +11,7 @@ use mosszephyr::{
 fn k1_rectangle() {
     let picture = drawn(&k1(), 4, 3);
     assert_eq!(picture.mask(), [0, 0, 0, 0, 0, 255, 255, 0, 0, 0, 0, 0]);
-    assert_eq!((picture.records(), picture.cells()), (5, 2));
+    assert_eq!(counts(&picture), on_grid(5, 2));
 }
 
 /// The reverse order is the list backwards, or the same start turned round.
@@ -88,6 +88,7 @@ fn k11_placement() {
         top: 3,
         width: 4,
         height: 2,
+        cut: 0,
     };
     let placed = placement(&path, identity, offset, Origin::BottomLeft);
     assert_eq!(placed, Ok(expected));
@@ -113,6 +114,7 @@ fn the_largest_placement() {
         top: -4097,
         width: 8194,
         height: 8194,
+        cut: 4,
     };
     assert_eq!(place(Origin::TopLeft), Ok(expected));
     let top = 4097;
@@ -126,7 +128,7 @@ fn k12_empty_list() {
     let path = Path::new();
     let picture = drawn(&path, 3, 2);
     assert_eq!(picture.mask(), [0; 6]);
-    assert_eq!((picture.records(), picture.cells()), (0, 0));
+    assert_eq!(counts(&picture), on_grid(0, 0));
     let identity = Transform::identity();
     assert_eq!(bounds(&path, identity), Ok(Bounds::default()));
     let placed = placement(&path, identity, Point::ZERO, Origin::TopLeft);
@@ -167,7 +169,7 @@ fn the_largest_label_is_drawn() {
     let corners = [(0.0, 0.0), (4095.0, 0.0), (0.0, 4095.0), (4095.0, 4095.0)];
     let squares = corners.map(|(x, y)| rectangle(x, y, x + 1.0, y + 1.0).into_bytes());
     let picture = drawn(&Path::from_bytes(squares.concat()), 4096, 4096);
-    assert_eq!((picture.records(), picture.cells()), (20, 6));
+    assert_eq!(counts(&picture), on_grid(20, 6));
     let mut expected = vec![0; 4096 * 4096];
     for at in [0, 4095, 4095 * 4096, 4096 * 4096 - 1] {
         expected[at] = 255;
@@ -182,20 +184,15 @@ fn the_last_row_is_filled() {
     let (mut mask, mut words) = ([7; 4096], [9; 5]);
     let label = Label::new(4096, 4096);
     let drawn = draw_band(&path, &label, 4095..4096, &mut mask, &mut words);
-    let (records, cells) = (5, 1);
-    assert_eq!(drawn, Ok(Drawn { records, cells }));
+    assert_eq!(drawn, Ok(on_grid(5, 1)));
     assert_eq!(mask, [255; 4096]);
 }
 
 #[test]
 fn nothing_to_draw_needs_nothing() {
-    let none = Drawn {
-        records: 5,
-        cells: 0,
-    };
     let label = Label::new(4, 3);
     let empty_band = draw_band(k1(), &label, 2..2, &mut [], &mut []);
-    assert_eq!(empty_band, Ok(none));
+    assert_eq!(empty_band, Ok(on_grid(5, 0)));
     for (width, height) in [(0, 0), (0, 3), (4, 0)] {
         assert_eq!(drawn(&Path::new(), width, height).mask(), []);
     }
@@ -211,5 +208,5 @@ fn longest_list_passes() {
     }
     assert_eq!(path.as_bytes().len(), 65_536);
     let picture = drawn(&path, 1, 1);
-    assert_eq!((picture.records(), picture.cells()), (16_382, 1));
+    assert_eq!(counts(&picture), on_grid(16_382, 1));
 }

@@ -3,6 +3,7 @@
 
 mod after_close;
 mod bands;
+mod grid;
 mod header;
 mod labels;
 mod lent;
@@ -17,7 +18,8 @@ mod worked;
 use std::ops::Range;
 
 use mosszephyr::{
-    draw, draw_band, mask_bytes, workspace_words, Drawn, Label, Path, Picture, Point, Refusal,
+    draw, draw_band, mask_bytes, workspace_words, Command, Drawn, Label, Path, Picture, Point,
+    Refusal,
 };
 
 /// The largest part of a point that passes, and the next float, which fails.
@@ -54,6 +56,24 @@ fn k1() -> Path {
 /// An accepted drawing.
 fn drawn(path: &Path, width: usize, height: usize) -> Picture {
     draw(path, &Label::new(width, height)).expect("the label is accepted")
+}
+
+/// What a picture counts.
+fn counts(picture: &Picture) -> Drawn {
+    Drawn {
+        records: picture.records(),
+        cells: picture.cells(),
+        cut: picture.cut(),
+    }
+}
+
+/// The counts of a path whose coordinates all lie on the grid.
+const fn on_grid(records: usize, cells: usize) -> Drawn {
+    Drawn {
+        records,
+        cells,
+        cut: 0,
+    }
 }
 
 /// A band drawn at once with a pool of so many places. A 13 leaves the mask as it was, and all words
@@ -124,6 +144,29 @@ fn dice(mut state: u32) -> impl FnMut(u32) -> u32 {
         state = state.wrapping_mul(1_664_525).wrapping_add(1_013_904_223);
         (state >> 16) % sides
     }
+}
+
+/// Lists of up to 14 records with points on and beside 6 x 5 pixels, a quarter of a pixel apart.
+fn small_figures(seed: u32) -> impl Iterator<Item = Path> {
+    let mut dice = dice(seed);
+    std::iter::repeat_with(move || {
+        let mut path = Path::new();
+        let mut closed = true;
+        for _ in 0..=dice(14) {
+            let mut point = || Point::new(dice(40) as f32 / 4.0 - 2.0, dice(36) as f32 / 4.0 - 2.0);
+            let (a, b, c) = (point(), point(), point());
+            let command = match (dice(8), closed) {
+                (0, _) if !path.is_empty() => Command::Close,
+                (1, _) | (_, true) => Command::MoveTo(a),
+                (2, _) => Command::QuadTo(a, b),
+                (3, _) => Command::CurveTo(a, b, c),
+                _ => Command::LineTo(a),
+            };
+            closed = command == Command::Close;
+            path.push(command);
+        }
+        path
+    })
 }
 
 /// Lines down and up, one within each column and one before them, past these rows: every row has

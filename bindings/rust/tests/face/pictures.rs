@@ -1,7 +1,7 @@
 //! Whole labels: pictures and their rows, a workspace for many, and labels with more places than a
 //! workspace has room for.
 
-use crate::{at, closed, comb, drawn, k1, round_figure, told};
+use crate::{at, closed, comb, counts, drawn, k1, on_grid, round_figure, told};
 use mosszephyr::{
     draw, draw_band, draw_in_bands, workspace_words, Drawn, Label, Origin, Path, Refusal,
     Transform, Workspace, MOST_CELLS,
@@ -57,7 +57,7 @@ fn any_bytes_are_drawn() {
 
 #[test]
 fn a_picture_is_told_in_a_line() {
-    let shown = "Picture { width: 4, height: 3, pitch: 4, records: 5, cells: 2, .. }";
+    let shown = "Picture { width: 4, height: 3, pitch: 4, records: 5, cells: 2, cut: 0, .. }";
     assert_eq!(format!("{:?}", drawn(&k1(), 4, 3)), shown);
 }
 
@@ -73,7 +73,7 @@ fn checksum(bytes: &[u8]) -> u64 {
 fn the_example_is_drawn_at_any_size() {
     let small = draw(EXAMPLE, &Label::new(640, 240)).unwrap();
     assert_eq!(checksum(small.mask()), 0x0AD1_0571_B216_AC2D);
-    assert_eq!(small.cells(), 8_263);
+    assert_eq!(counts(&small), on_grid(1_251, 8_263));
 
     let label = Label {
         transform: Transform::scale(2.0, 2.0),
@@ -83,7 +83,7 @@ fn the_example_is_drawn_at_any_size() {
     assert_eq!(told(refusal), at(13, 1_239, 19_564));
     let large = draw(EXAMPLE, &label).unwrap();
     assert_eq!(checksum(large.mask()), 0x6962_F6BC_4857_D771);
-    assert_eq!((large.records(), large.cells()), (small.records(), 16_494));
+    assert_eq!(counts(&large), on_grid(1_251, 16_494));
 }
 
 /// A label drawn at once with as much room as there is.
@@ -145,8 +145,7 @@ fn the_fullest_rows_fit_by_three() {
     let mut words = vec![9; workspace_words(8, MOST_CELLS).unwrap()];
     let mut by = |step| draw_in_bands(&path, &label, 0..8, step, &mut mask, &mut words);
     assert_eq!(told(by(4).unwrap_err()), at(13, 4_097, 12 * 4_097));
-    let (records, cells) = (4098, 4097 * 8);
-    assert_eq!(by(3), Ok(Drawn { records, cells }));
+    assert_eq!(by(3), Ok(on_grid(4098, 4097 * 8)));
 }
 
 /// One workspace for labels of any size, refused ones among them, one after the other.
@@ -176,8 +175,7 @@ fn a_workspace_serves_many_labels() {
         let drawn = workspace.draw(path, &label, &mut mask);
         match draw(path, &label) {
             Ok(picture) => {
-                let (records, cells) = (picture.records(), picture.cells());
-                assert_eq!(drawn, Ok(Drawn { records, cells }));
+                assert_eq!(drawn, Ok(counts(&picture)));
                 assert_eq!(mask, picture.mask());
             }
             refused => {

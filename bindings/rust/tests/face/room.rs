@@ -3,10 +3,8 @@
 
 use std::ops::Range;
 
-use crate::{at, closed, dice, k1, open, rectangle, round_figure, told, with_pool};
-use mosszephyr::{
-    draw_band, draw_in_bands, Command, Label, Origin, Path, Point, Refusal, MOST_LIST,
-};
+use crate::{at, closed, k1, open, rectangle, round_figure, small_figures, told, with_pool};
+use mosszephyr::{draw_band, draw_in_bands, Command, Label, Origin, Path, Refusal, MOST_LIST};
 
 /// The record of a 13. Its byte is behind all records before it, and the end is behind the last.
 fn full_at(path: &Path, refusal: Refusal) -> usize {
@@ -45,29 +43,6 @@ fn bands(rows: usize, step: usize) -> impl Iterator<Item = Range<usize>> {
     (0..rows)
         .step_by(step)
         .map(move |first| first..rows.min(first + step))
-}
-
-/// Lists of up to 14 records with points on and beside 6 x 5 pixels, a quarter of a pixel apart.
-fn small_figures(seed: u32) -> impl Iterator<Item = Path> {
-    let mut dice = dice(seed);
-    std::iter::repeat_with(move || {
-        let mut path = Path::new();
-        let mut closed = true;
-        for _ in 0..=dice(14) {
-            let mut point = || Point::new(dice(40) as f32 / 4.0 - 2.0, dice(36) as f32 / 4.0 - 2.0);
-            let (a, b, c) = (point(), point(), point());
-            let command = match (dice(8), closed) {
-                (0, _) if !path.is_empty() => Command::Close,
-                (1, _) | (_, true) => Command::MoveTo(a),
-                (2, _) => Command::QuadTo(a, b),
-                (3, _) => Command::CurveTo(a, b, c),
-                _ => Command::LineTo(a),
-            };
-            closed = command == Command::Close;
-            path.push(command);
-        }
-        path
-    })
 }
 
 /// The first place is inked by record 1, and left by record 2, which inks nothing. The second is inked

@@ -7,7 +7,7 @@
 use std::iter::repeat_n;
 use std::ops::Range;
 
-use crate::{at, told, with_pool};
+use crate::{at, counts, on_grid, told, with_pool};
 use mosszephyr::{
     bands_words, draw, draw_band, draw_in_bands, Drawn, Fill, Label, Origin, Point, Transform,
     Workspace,
@@ -50,14 +50,8 @@ fn slanted(fill: Fill) -> Label {
     }
 }
 
-const OF_BAND: Drawn = Drawn {
-    records: 12,
-    cells: 93,
-};
-const OF_WHOLE: Drawn = Drawn {
-    records: 12,
-    cells: 115,
-};
+const OF_BAND: Drawn = on_grid(12, 93);
+const OF_WHOLE: Drawn = on_grid(12, 115);
 
 /// Up, the band's rows are rows 3 to 13 of the picture too: as many are left out below as above.
 #[test]
@@ -88,6 +82,28 @@ fn draw_in_bands_draws_the_stored_mask_in_steps_of_three() {
             let (mut mask, mut words) = (vec![OLD; stored.band.len()], vec![7; WORDS]);
             let drawn = draw_in_bands(LIST, &label, BAND, step, &mut mask, &mut words);
             assert_eq!((drawn, &mask[..]), (Ok(OF_BAND), stored.band), "{step}");
+        }
+    }
+}
+
+/// Moved by less than 1/256 all 13 x, all 13 y, or both are cut to where they were.
+#[test]
+fn the_stored_masks_are_drawn_off_the_grid() {
+    for stored in STORED {
+        for (x, y, cut) in [(1.0, 0.0, 13), (0.0, 3.0, 13), (2.0, 1.0, 26)] {
+            let label = slanted(stored.fill);
+            let label = Label {
+                offset: Point::new(label.offset.x + x / 1024.0, label.offset.y + y / 1024.0),
+                ..label
+            };
+            let (mut mask, mut words) = (vec![OLD; stored.band.len()], vec![7; WORDS]);
+            let drawn = draw_in_bands(LIST, &label, BAND, 3, &mut mask, &mut words);
+            assert_eq!(drawn, Ok(Drawn { cut, ..OF_BAND }));
+            assert_eq!(mask, stored.band);
+            let mut mask = vec![OLD; stored.whole.len()];
+            let drawn = Workspace::new().draw(LIST, &label, &mut mask);
+            assert_eq!(drawn, Ok(Drawn { cut, ..OF_WHOLE }));
+            assert_eq!(mask, stored.whole);
         }
     }
 }
@@ -153,8 +169,7 @@ fn bands_words_counts_the_workspace() {
 fn draw_draws_the_stored_picture() {
     for stored in STORED {
         let picture = draw(LIST, &slanted(stored.fill)).unwrap();
-        let counts = (picture.records(), picture.cells());
-        assert_eq!(counts, (OF_WHOLE.records, OF_WHOLE.cells));
+        assert_eq!(counts(&picture), OF_WHOLE);
         let sides = (picture.width(), picture.height(), picture.pitch());
         assert_eq!(sides, (24, 17, 29));
         for (y, row) in stored.whole.chunks(29).enumerate() {
