@@ -211,7 +211,7 @@ pub enum Judged {
     Refused(Refusal, u32),
 }
 
-// Judges the records front to back.
+// Judges the records front to back, and counts the coordinates that are cut.
 pub fn judge(list: &[u8], t: Transform, o: Point) -> Judged
     requires { ⌜ length (now list) ≤ 65536 ⌝ }
     ensures { λ r. ⌜ r ≡ judgedOf t o (readList t o (now (list .entry))) ⌝ }
