@@ -2,7 +2,7 @@
 -- coordinate, times 256, is whole.
 use Prim.Native.Nat.{ℕ, zero, suc, _+_, _*_, _/_, _%_, _<_}
 use mathlib.Core.Path.{_≡_, refl, sym, ap, _∙_}
-use mathlib.Core.Bool.{Bool, true, false, not, cond, _&&_}
+use mathlib.Core.Bool.{Bool, true, false, not, cond}
 use mathlib.Core.List.{List, [], _∷_, _++_, map, map-append}
 use mathlib.Core.Logic.{_↔_}
 use native.Mathlib.Omega.{arith}
@@ -15,6 +15,7 @@ use Rattle.geometry.specs.declared.Point.{Point}
 use Rattle.geometry.specs.declared.Transform.{Transform}
 use Rattle.command.specs.declared.Command.{Command}
 use Rattle.fixed.specs.Fixed as fixed
+use Rattle.line.proofs.Tests.{both-true}
 use Rattle.path.specs.Reading as reading
 use Rattle.paper.specs.PathList.{pointsOf}
 use Rattle.paper.specs.Floats.{moved, shifted, pointsIn, isCut, cutOf, cutIn, near, passes}
@@ -73,17 +74,13 @@ on-grid (fin s m e) h = whole-rest (m * up e * 256) (down e)
 abbrev Grid : Point → Type 0
 Grid p = OnGrid (p .x) × OnGrid (p .y)
 
-both : (a b : Bool) → (a && b) ≡ true → (a ≡ true) × (b ≡ true)
-both true b e = (refl, e)
-both false b e = absurd (let z : _≡_ {A = ℕ} 0 1 = cc in omega arith)
-
 none : (b : Bool) → cond {A = ℕ} b 1 0 ≡ 0 → b ≡ false
 none true e = absurd (omega arith)
 none false e = refl
 
 point-on-grid : (p : Point) (n : ℕ) → passes p ≡ true → cond (isCut (p .x)) 1 0 + cond (isCut (p .y)) 1 0 + n ≡ 0 ↔ Grid p × (n ≡ 0)
 point-on-grid p n h =
-    let k = both (near (p .x)) (near (p .y)) h in
+    let k = both-true (near (p .x)) (near (p .y)) h in
     let x = on-grid (p .x) (k .0) in
     let y = on-grid (p .y) (k .1) in (
       λ e. ((x .0 (none _ (omega arith)), y .0 (none _ (omega arith))), omega arith),
@@ -115,7 +112,7 @@ module _ (t : Transform) (o : Point) where
   near-points : (ps qs : List Point) → allPass t o ps ≡ true → AllNear o qs → AllNear o (map (moved t) ps ++ qs)
   unfolding allPass
   near-points [] qs e h = h
-  near-points (p ∷ ps) qs e h = let k = both (passes (shifted o (moved t p))) (allPass t o ps) e in (k .0, near-points ps qs (k .1) h)
+  near-points (p ∷ ps) qs e h = let k = both-true (passes (shifted o (moved t p))) (allPass t o ps) e in (k .0, near-points ps qs (k .1) h)
 
   near-path : (cs : List Command) → AllPassed t o cs → AllNear o (pointsIn t cs)
   unfolding pointsIn

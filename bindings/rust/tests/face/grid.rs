@@ -3,7 +3,7 @@
 
 use std::ops::Range;
 
-use crate::{comb, dice, k1, rectangle, round_figure, small_figures, JUST_WITHIN};
+use crate::{comb, dice, in_each_place, k1, rectangle, round_figure, small_figures, JUST_WITHIN};
 use mosszephyr::{
     draw, draw_band, draw_in_bands, placement, Command, Label, Origin, Path, Point, Refusal,
     Transform, Workspace, MOST_LIST,
@@ -194,18 +194,10 @@ fn negative_zeros_lie_on_the_grid() {
 /// Each coordinate of each command by itself, control points too; all others are 0.
 #[test]
 fn every_coordinate_counts() {
-    let zero = Point::ZERO;
     for off in [Point::new(0.1, 0.0), Point::new(0.0, 0.1)] {
-        for command in [
-            MoveTo(off),
-            LineTo(off),
-            QuadTo(off, zero),
-            QuadTo(zero, off),
-            CurveTo(off, zero, zero),
-            CurveTo(zero, off, zero),
-            CurveTo(zero, zero, off),
-        ] {
-            let path: Path = [MoveTo(zero), command, Close].into_iter().collect();
+        for command in in_each_place(off) {
+            let commands = [MoveTo(Point::ZERO), command, Close];
+            let path: Path = commands.into_iter().collect();
             assert_eq!(cut_at(&path, 0.0, 0.0), 1, "{command:?}");
         }
     }

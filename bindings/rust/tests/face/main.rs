@@ -48,6 +48,20 @@ fn rectangle(left: f32, top: f32, right: f32, bottom: f32) -> Path {
     closed(&[(left, top), (right, top), (right, bottom), (left, bottom)])
 }
 
+/// Every place that a point has in a record; all others are 0.
+fn in_each_place(point: Point) -> [Command; 7] {
+    let zero = Point::ZERO;
+    [
+        Command::MoveTo(point),
+        Command::LineTo(point),
+        Command::QuadTo(point, zero),
+        Command::QuadTo(zero, point),
+        Command::CurveTo(point, zero, zero),
+        Command::CurveTo(zero, point, zero),
+        Command::CurveTo(zero, zero, point),
+    ]
+}
+
 /// K1's path.
 fn k1() -> Path {
     rectangle(1.0, 1.0, 3.0, 2.0)

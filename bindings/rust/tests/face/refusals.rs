@@ -2,7 +2,7 @@
 
 use std::ops::Range;
 
-use crate::{at, dice, faulty_labels, k1, told, JUST_BEYOND, JUST_WITHIN};
+use crate::{at, dice, faulty_labels, in_each_place, k1, told, JUST_BEYOND, JUST_WITHIN};
 use mosszephyr::{
     bounds, draw, draw_band, draw_in_bands, placement, Command, Label, Origin, Path, Point,
     Refusal, Transform,
@@ -193,20 +193,9 @@ fn point_is_12() {
 
 /// Each part of each point of a record by itself, so far away; all others are 0.
 fn far_parts(far: f32) -> impl Iterator<Item = Path> {
-    let zero = Point::ZERO;
     let points = [(far, 0.0), (0.0, far), (-far, 0.0), (0.0, -far)].map(Point::from);
-    points.into_iter().flat_map(move |point| {
-        let records = [
-            MoveTo(point),
-            LineTo(point),
-            QuadTo(point, zero),
-            QuadTo(zero, point),
-            CurveTo(point, zero, zero),
-            CurveTo(zero, point, zero),
-            CurveTo(zero, zero, point),
-        ];
-        records.map(|record| [MoveTo(zero), record].into_iter().collect())
-    })
+    let records = points.into_iter().flat_map(in_each_place);
+    records.map(|record| [MoveTo(Point::ZERO), record].into_iter().collect())
 }
 
 #[test]
