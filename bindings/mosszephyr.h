@@ -139,12 +139,13 @@ extern "C" {
 
 /*
  * The version of this face. In 0.6.0 MzDrawn and MzPlacement have become longer, by `cut`: what was
- * compiled with an older header must be compiled anew.
+ * compiled with an older header must be compiled anew. In 0.7.0 mz_then and the three that are made
+ * from it give other numbers where an xy or a yx is not 0: they were zeno's before.
  */
 #define MZ_VERSION_MAJOR 0
-#define MZ_VERSION_MINOR 6
+#define MZ_VERSION_MINOR 7
 #define MZ_VERSION_PATCH 0
-#define MZ_VERSION "0.6.0"
+#define MZ_VERSION "0.7.0"
 
 /* The largest width and height, in pixels. */
 #define MZ_MOST_SIDE 4096
@@ -400,28 +401,38 @@ MzTransform mz_translation(float x, float y);
 MzTransform mz_scale(float x, float y);
 
 /*
- * t combined with next, just as zeno combines them; each product and each sum is rounded:
+ * t, and then next, whatever they are; each product and each sum is rounded:
  *
- *     xx = t.xx*next.xx + t.yx*next.xy            xy = t.xy*next.xx + t.yy*next.xy
- *     yx = t.xx*next.yx + t.yx*next.yy            yy = t.xy*next.yx + t.yy*next.yy
- *     x = (t.x*next.xx + t.y*next.xy) + next.x    y = (t.x*next.yx + t.y*next.yy) + next.y
+ *     xx = t.xx*next.xx + t.xy*next.yx            xy = t.xx*next.xy + t.xy*next.yy
+ *     yx = t.yx*next.xx + t.yy*next.yx            yy = t.yx*next.xy + t.yy*next.yy
+ *     x = (t.x*next.xx + t.y*next.yx) + next.x    y = (t.x*next.xy + t.y*next.yy) + next.y
  *
- * Where xy and yx are 0 in both, it moves a point as t does and then as next does, but for the
- * rounding. Where they are not, as in a rotation, it need not, and so for the three that are made
- * from it: fill in the entries instead.
+ * It moves a point as t does and then as next does, but for the rounding. Where the entries and the
+ * point are whole numbers and nothing is rounded on either way, it is proved to do just that, 0 and
+ * -0 counting as one: so where none of them is above 128 in size, or where none of xx, xy, yx and
+ * yy is above 16 and none of the others above 4096.
+ *
+ * Products with 0 are made as well, here and in the three that are made from it. That shows in the
+ * sign of a zero, and where a number is not finite.
+ *
+ * zeno's `then` is another: it has xy and yx exchanged in t, in next and in the answer. Where both
+ * are 0 in t and in next, and all numbers finite, only the sign of a zero may differ.
  */
 MzTransform mz_then(MzTransform t, MzTransform next);
 
-/* mz_then(t, mz_scale(x, y)): t.xx, t.xy and t.x times x; t.yx, t.yy and t.y times y. */
+/* mz_then(t, mz_scale(x, y)): t.xx, t.yx and t.x times x; t.xy, t.yy and t.y times y. */
 MzTransform mz_then_scale(MzTransform t, float x, float y);
 
 /* t, and then a translation, whatever t is: x is added to t.x and y to t.y. */
 MzTransform mz_then_translate(MzTransform t, float x, float y);
 
-/* mz_then(mz_scale(x, y), t): t.xx and t.yx times x; t.xy and t.yy times y; t.x and t.y stay. */
+/* mz_then(mz_scale(x, y), t): t.xx and t.xy times x; t.yx and t.yy times y; t.x and t.y stay. */
 MzTransform mz_pre_scale(MzTransform t, float x, float y);
 
-/* mz_then(mz_translation(x, y), t): x*xx + y*xy is added to t.x, and x*yx + y*yy to t.y. */
+/*
+ * mz_then(mz_translation(x, y), t): x*xx + y*yx is added to t.x, and x*xy + y*yy to t.y, so that
+ * they become where t sends (x, y).
+ */
 MzTransform mz_pre_translate(MzTransform t, float x, float y);
 
 /* Where t sends the point (x, y). */

@@ -1,9 +1,10 @@
 /*
  * The C face, called as a C or a C++ program calls it: a worked label that zeno drew, at once and
- * in bands; worked transforms; K1, K8, K11, K12 and every refusal of the rules (docs/RULES.md), 13
- * with every room that is too small, 18 with every short list; how many coordinates are cut, in
- * every band; what the header says besides its functions. Takes the folder ../worked as its
- * argument. Prints what differs; exits non-zero if anything does. `run` builds it both ways.
+ * in bands; worked transforms, and one followed by another over a grid; K1, K8, K11, K12 and every
+ * refusal of the rules (docs/RULES.md), 13 with every room that is too small, 18 with every short
+ * list; how many coordinates are cut, in every band; what the header says besides its functions.
+ * Takes the folder ../worked as its argument. Prints what differs; exits non-zero if anything does.
+ * `run` builds it both ways.
  */
 
 #include "lists.h"
@@ -300,7 +301,7 @@ static void slanted(const char *folder) {
     }
 }
 
-/* ---- transforms, with numbers worked by hand: all are exact */
+/* ---- transforms, with numbers worked by hand */
 
 static bool is_transform(MzTransform t, float xx, float xy, float yx, float yy, float x, float y) {
     return t.xx == xx && t.xy == xy && t.yx == yx && t.yy == yy && t.x == x && t.y == y;
@@ -312,33 +313,291 @@ static void transforms_are_made(void) {
     check(is_transform(mz_scale(2, -4), 2, 0, 0, -4, 0, 0), "mz_scale");
 }
 
-static void transforms_are_combined(void) {
-    MzTransform t = slanted_label(false).transform;
-    MzTransform next = t;
-    next.xx = 2;
-    next.xy = -0.25f;
-    next.yx = 0.75f;
-    next.yy = 1.5f;
-    next.x = -3;
-    next.y = 5;
-    MzTransform then = mz_then(t, next);
-    check(is_transform(then, 2.625f, 0.53125f, 0.1875f, 1.59375f, 9.5625f, 12.5f), "mz_then");
-    then = mz_then_scale(t, 2, -4);
-    check(is_transform(then, 2.5f, 0.75f, 2, -3.5f, 13, -7), "mz_then_scale");
-    then = mz_then_translate(t, 2, -4);
-    check(is_transform(then, 1.25f, 0.375f, -0.5f, 0.875f, 8.5f, -2.25f), "mz_then_translate");
-    then = mz_pre_scale(t, 2, -4);
-    check(is_transform(then, 2.5f, -1.5f, -1, -3.5f, 6.5f, 1.75f), "mz_pre_scale");
-    then = mz_pre_translate(t, 2, -4);
-    check(is_transform(then, 1.25f, 0.375f, -0.5f, 0.875f, 7.5f, -2.75f), "mz_pre_translate");
-}
-
 static void transforms_are_applied(void) {
     MzTransform t = slanted_label(false).transform;
     MzPoint point = mz_transform_point(t, 2, -4);
     check(point.x == 11 && point.y == -1, "mz_transform_point");
     MzPoint vector = mz_transform_vector(t, 2, -4);
     check(vector.x == 4.5f && vector.y == -2.75f, "mz_transform_vector");
+}
+
+static void transforms_are_combined(void) {
+    const MzTransform t = slanted_label(false).transform;
+    const MzTransform next = {2, -0.25f, 0.75f, 1.5f, -3, 5};
+    MzTransform both = mz_then(t, next);
+    check(is_transform(both, 2.78125f, 0.25f, -0.34375f, 1.4375f, 11.3125f, 6), "mz_then");
+    both = mz_then(next, t);
+    check(is_transform(both, 2.625f, 0.53125f, 0.1875f, 1.59375f, 0.25f, 5), "mz_then, reversed");
+    both = mz_then_scale(t, 2, -4);
+    check(is_transform(both, 2.5f, -1.5f, -1, -3.5f, 13, -7), "mz_then_scale");
+    both = mz_then_translate(t, 2, -4);
+    check(is_transform(both, 1.25f, 0.375f, -0.5f, 0.875f, 8.5f, -2.25f), "mz_then_translate");
+    both = mz_pre_scale(t, 2, -4);
+    check(is_transform(both, 2.5f, 0.75f, 2, -3.5f, 6.5f, 1.75f), "mz_pre_scale");
+    both = mz_pre_translate(t, 2, -4);
+    check(is_transform(both, 1.25f, 0.375f, -0.5f, 0.875f, 11, -1), "mz_pre_translate");
+}
+
+/* (x, y) goes to (-y, x). */
+static const MzTransform quarter_turn = {0, 1, -1, 0, 0, 0};
+
+static bool sends(MzTransform t, float x, float y, float to_x, float to_y) {
+    MzPoint point = mz_transform_point(t, x, y);
+    return point.x == to_x && point.y == to_y;
+}
+
+static void turns_are_combined(void) {
+    MzTransform t = mz_then_scale(quarter_turn, 2, 1);
+    check(is_transform(t, 0, 1, -2, 0, 0, 0), "a turn, then a scale");
+    check(sends(t, 1, 0, 0, 1), "a turn, then a scale: (1, 0)");
+    t = mz_pre_scale(quarter_turn, 2, 1);
+    check(is_transform(t, 0, 2, -1, 0, 0, 0), "a scale, then a turn");
+    check(sends(t, 1, 0, 0, 2), "a scale, then a turn: (1, 0)");
+    t = mz_then(quarter_turn, mz_translation(3, 5));
+    check(is_transform(t, 0, 1, -1, 0, 3, 5), "a turn, then a move");
+    t = mz_then(mz_translation(3, 5), quarter_turn);
+    check(is_transform(t, 0, 1, -1, 0, -5, 3), "a move, then a turn");
+    t = mz_pre_translate(quarter_turn, 3, 5);
+    check(is_transform(t, 0, 1, -1, 0, -5, 3), "a turn, and a move before it");
+    check(is_transform(mz_then(t, quarter_turn), -1, 0, 0, -1, -3, -5), "a move, then two turns");
+    check(is_transform(mz_then(quarter_turn, t), -1, 0, 0, -1, -5, 3), "a move between two turns");
+}
+
+/* To the right by twice y, and down by three times x. */
+static void shears_are_combined(void) {
+    const MzTransform right = {1, 0, 2, 1, 0, 0};
+    const MzTransform down = {1, 3, 0, 1, 0, 0};
+    check(is_transform(mz_then(right, down), 1, 3, 2, 7, 0, 0), "a shear right, then down");
+    check(is_transform(mz_then(down, right), 7, 3, 2, 1, 0, 0), "a shear down, then right");
+    check(is_transform(mz_then_scale(right, 5, 11), 5, 0, 10, 11, 0, 0), "a shear, then a scale");
+    check(is_transform(mz_pre_scale(right, 5, 11), 5, 0, 22, 11, 0, 0), "a scale, then a shear");
+}
+
+/* A turn that also makes five times as large: a scaled label keeps its right angles. */
+static void turns_do_not_slant(void) {
+    const MzTransform turn = {3, 4, -4, 3, 0, 0};
+    MzTransform t = mz_then(mz_scale(400, 120), turn);
+    check(is_transform(t, 1200, 1600, -480, 360, 0, 0), "a scaled label is turned");
+    MzPoint along = mz_transform_vector(t, 1, 0);
+    MzPoint down = mz_transform_vector(t, 0, 1);
+    check(along.x * down.x + along.y * down.y == 0, "a turned label has right angles");
+}
+
+/* K1 on 4 x 3 pixels, turned by a quarter into 3 x 4 and then made twice as wide. */
+static void turned_label_is_drawn(void) {
+    static const uint8_t bytes[24] = {0, 0, 0,   0,   0, 0, 0, 0, 255, 255, 0, 0,
+                                      0, 0, 255, 255, 0, 0, 0, 0, 0,   0,   0, 0};
+    List list = rectangle();
+    Call call = call_of(&list, 6, 4);
+    call.label.transform = mz_then_scale(mz_then_translate(quarter_turn, 3, 0), 2, 1);
+    MzDrawn drawn = draw(&call);
+    check(drawn.number == MZ_ACCEPTED && drawn.cut == 0, "a turned label: answer");
+    check(masked(&call, bytes, LENGTH(bytes)), "a turned label: mask");
+}
+
+static bool same_bits(MzTransform a, MzTransform b) { return memcmp(&a, &b, sizeof a) == 0; }
+
+/* Every product and every sum is made, but by mz_then_translate only two sums. */
+static void zeros_have_signs(void) {
+    const MzTransform zeros = {-0.0f, 0, -0.0f, 0, -0.0f, 0};
+    const MzTransform unsigned_zeros = {0, 0, 0, 0, 0, 0};
+    MzTransform t = mz_then_translate(zeros, -0.0f, -0.0f);
+    check(same_bits(t, zeros), "mz_then_translate keeps signs");
+    t = mz_then(zeros, mz_translation(-0.0f, -0.0f));
+    check(same_bits(t, unsigned_zeros), "mz_then with a translation");
+    const MzTransform mirrored = {-1, 0, 0, 1, 0, 0};
+    t = mz_then_scale(mz_identity(), -1, 1);
+    check(same_bits(t, mirrored), "mz_then_scale: 0 * -1 + 1 * 0 is 0");
+    const MzTransform three_quarters = {-0.0f, -1, 1, 0, 0, 0};
+    t = mz_pre_scale(quarter_turn, -1, -1);
+    check(same_bits(t, three_quarters), "mz_pre_scale: -1 * 0 + 0 * -1 is -0");
+}
+
+static void endless_scales_are_multiplied(void) {
+    MzTransform t = mz_then_scale(mz_identity(), INFINITY, 1);
+    check(t.xx == INFINITY && t.xy == 0 && isnan(t.yx) && t.yy == 1, "then an endless scale");
+    check(isnan(t.x) && t.y == 0, "then an endless scale: x and y");
+    t = mz_pre_scale(mz_identity(), INFINITY, 1);
+    check(t.xx == INFINITY && isnan(t.xy) && t.yx == 0 && t.yy == 1, "an endless scale first");
+    check(t.x == 0 && t.y == 0, "an endless scale first: x and y");
+}
+
+/* 2^24 + 1 is 2^24, and so again; 1 + 1 first would make it 2^24 + 2. */
+static void sums_are_made_from_the_left(void) {
+    const MzTransform far_off = {0, 0, 0, 0, 16777216, 1};
+    const MzTransform ones = {1, 1, 1, 1, 1, 1};
+    MzTransform t = mz_then(far_off, ones);
+    check(is_transform(t, 0, 0, 0, 0, 16777216, 16777216), "mz_then: from the left");
+    t = mz_pre_translate(ones, 16777216, 1);
+    check(is_transform(t, 1, 1, 1, 1, 16777216, 16777216), "mz_pre_translate: from the left");
+}
+
+/* 4097 * 4097 is 16785409, which rounds to 16785408: each pair of products is 0, and fused 1. */
+static void products_are_rounded(void) {
+    const MzTransform first = {4097, 1, 4097, 1, 4097, 1};
+    const MzTransform by_first = {4097, 4097, -16785408, -16785408, 0, 0};
+    MzTransform t = mz_then(first, by_first);
+    check(is_transform(t, 0, 0, 0, 0, 0, 0), "the first product of each pair is rounded");
+    const MzTransform second = {1, 4097, 1, 4097, 1, 4097};
+    const MzTransform by_second = {-16785408, -16785408, 4097, 4097, 0, 0};
+    t = mz_then(second, by_second);
+    check(is_transform(t, 0, 0, 0, 0, 0, 0), "the second product of each pair is rounded");
+}
+
+/* 3 * 16785408, and 12291 * 4097, which is 50356227 and rounded. */
+static void one_behind_the_other_is_rounded_otherwise(void) {
+    const MzTransform wide = mz_scale(4097, 1);
+    check(sends(mz_then(wide, wide), 3, 0, 50356224, 0), "both at once, rounded");
+    check(sends(wide, 3, 0, 12291, 0), "one of both");
+    check(sends(wide, 12291, 0, 50356228, 0), "the other of both, rounded");
+}
+
+/* ---- transforms by the rules, and one behind the other */
+
+static MzTransform transform_of(const float entries[6]) {
+    MzTransform t;
+    memcpy(&t, entries, sizeof t);
+    return t;
+}
+
+/* A float of either sign from 2^-8 to 2^8, or one time in eight a zero. */
+static float float_by_dice(uint32_t *state) {
+    uint32_t bits = (uint32_t)dice(state, 2) << 31;
+    if (dice(state, 8) != 0) {
+        bits += (119 + dice(state, 16)) << 23;
+        bits += dice(state, 32768) << 8;
+        bits += dice(state, 256);
+    }
+    float number;
+    memcpy(&number, &bits, sizeof number);
+    return number;
+}
+
+static MzTransform transform_by_dice(uint32_t *state) {
+    float entries[6];
+    for (unsigned at = 0; at < LENGTH(entries); at += 1) {
+        entries[at] = float_by_dice(state);
+    }
+    return transform_of(entries);
+}
+
+/* mz_then by the rules. */
+static MzTransform ruled_then(MzTransform t, MzTransform next) {
+    MzTransform both;
+    both.xx = t.xx * next.xx + t.xy * next.yx;
+    both.xy = t.xx * next.xy + t.xy * next.yy;
+    both.yx = t.yx * next.xx + t.yy * next.yx;
+    both.yy = t.yx * next.xy + t.yy * next.yy;
+    both.x = (t.x * next.xx + t.y * next.yx) + next.x;
+    both.y = (t.x * next.xy + t.y * next.yy) + next.y;
+    return both;
+}
+
+/* By the bits, of numbers whose products and sums are rounded. */
+static void transforms_are_combined_by_the_rules(void) {
+    uint32_t state = 4;
+    for (int round = 0; round < 500; round += 1) {
+        MzTransform t = transform_by_dice(&state);
+        MzTransform next = transform_by_dice(&state);
+        float x = next.x;
+        float y = next.y;
+        check(same_bits(mz_then(t, next), ruled_then(t, next)), "mz_then: the rules");
+        MzTransform both = ruled_then(t, mz_scale(x, y));
+        check(same_bits(mz_then_scale(t, x, y), both), "mz_then_scale: the rules");
+        both = ruled_then(mz_scale(x, y), t);
+        check(same_bits(mz_pre_scale(t, x, y), both), "mz_pre_scale: the rules");
+        both = ruled_then(mz_translation(x, y), t);
+        check(same_bits(mz_pre_translate(t, x, y), both), "mz_pre_translate: the rules");
+        check(sends(t, x, y, both.x, both.y), "mz_pre_translate: where the move goes");
+        both = t;
+        both.x += x;
+        both.y += y;
+        check(same_bits(mz_then_translate(t, x, y), both), "mz_then_translate: the rules");
+    }
+}
+
+/* Whether a point goes by both at once where it goes by one and then the next. */
+static bool follows(MzTransform t, MzTransform next, float x, float y) {
+    MzPoint between = mz_transform_point(t, x, y);
+    MzPoint last = mz_transform_point(next, between.x, between.y);
+    return sends(mz_then(t, next), x, y, last.x, last.y);
+}
+
+#define SMALL_TRANSFORMS 729
+
+/* One for each number below that: each of its six digits is an entry, -2, 0 or 3. */
+static MzTransform small_transform(unsigned number) {
+    static const float digits[] = {-2, 0, 3};
+    float entries[6];
+    for (unsigned at = 0; at < LENGTH(entries); at += 1) {
+        entries[at] = digits[number % 3];
+        number /= 3;
+    }
+    return transform_of(entries);
+}
+
+static bool each_small_one_follows(MzTransform t) {
+    bool all = true;
+    for (unsigned number = 0; number < SMALL_TRANSFORMS; number += 1) {
+        MzTransform next = small_transform(number);
+        all = all && follows(t, next, 0, 0) && follows(t, next, 5, -7) && follows(t, next, -11, 1);
+    }
+    return all;
+}
+
+/* A whole number that is not larger than `most` either way, and just that one time in two. */
+static float whole_by_dice(uint32_t *state, unsigned most) {
+    unsigned side = dice(state, 4);
+    if (side < 2) {
+        return side == 0 ? (float)most : -(float)most;
+    }
+    return (float)dice(state, 2 * most + 1) - (float)most;
+}
+
+/* xx, xy, yx and yy up to `most`, x and y up to `farthest`. */
+static MzTransform whole_transform(uint32_t *state, unsigned most, unsigned farthest) {
+    float entries[6];
+    for (unsigned at = 0; at < LENGTH(entries); at += 1) {
+        entries[at] = whole_by_dice(state, at < 4 ? most : farthest);
+    }
+    return transform_of(entries);
+}
+
+static void whole_ones_follow(unsigned most, unsigned farthest) {
+    uint32_t state = most;
+    for (int round = 0; round < 1000; round += 1) {
+        MzTransform t = whole_transform(&state, most, farthest);
+        MzTransform next = whole_transform(&state, most, farthest);
+        float x = whole_by_dice(&state, farthest);
+        float y = whole_by_dice(&state, farthest);
+        check(follows(t, next, x, y), "one and then the other, whole numbers");
+    }
+}
+
+/* Of whole numbers one and then the other is just that, 0 and -0 being equal. */
+static void transforms_follow_each_other(void) {
+    for (unsigned number = 0; number < SMALL_TRANSFORMS; number += 1) {
+        check(each_small_one_follows(small_transform(number)), "one and then each other");
+    }
+    whole_ones_follow(128, 128);
+    whole_ones_follow(16, 4096);
+}
+
+static void transforms(void) {
+    transforms_are_made();
+    transforms_are_applied();
+    transforms_are_combined();
+    turns_are_combined();
+    shears_are_combined();
+    turns_do_not_slant();
+    turned_label_is_drawn();
+    zeros_have_signs();
+    endless_scales_are_multiplied();
+    sums_are_made_from_the_left();
+    products_are_rounded();
+    one_behind_the_other_is_rounded_otherwise();
+    transforms_are_combined_by_the_rules();
+    transforms_follow_each_other();
 }
 
 /* From (11, -1) to (9.75, 3.75) and back, moved by (0.5 and 1/512, -2.25): each x is cut. */
@@ -1401,9 +1660,7 @@ int main(int argc, char **argv) {
         return 2;
     }
     slanted(argv[1]);
-    transforms_are_made();
-    transforms_are_combined();
-    transforms_are_applied();
+    transforms();
     slanted_line_is_placed();
     label_is_whole();
     label_of_zeros_draws_nothing();

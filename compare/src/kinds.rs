@@ -3,6 +3,7 @@
 
 pub mod bands;
 pub mod boxes;
+pub mod by_hand;
 pub mod calls;
 pub mod cells;
 pub mod cuts;
@@ -12,9 +13,11 @@ pub mod in_bands;
 pub mod lists;
 pub mod lost_moves;
 pub mod maps;
+pub mod moved_twice;
 pub mod no_room;
 pub mod placements;
 pub mod stores;
+pub mod unslanted;
 
 use std::collections::BTreeMap;
 use std::iter::repeat;
@@ -154,8 +157,29 @@ fn listed<'a>(names: impl Iterator<Item = &'a str>, numbers: &[f32]) -> String {
 
 /// Says where two lists of numbers differ, bit for bit but for NaN.
 fn agree(by: &str, names: &[&str], ours: &[f32], theirs: &[f32]) -> Result<(), String> {
+    agree_if(same, by, names, ours, theirs)
+}
+
+/// The same with zeros of either sign as one.
+fn agree_but_for_zeros(
+    by: &str,
+    names: &[&str],
+    ours: &[f32],
+    theirs: &[f32],
+) -> Result<(), String> {
+    let is_same = |a, b| a == b || same(a, b);
+    agree_if(is_same, by, names, ours, theirs)
+}
+
+fn agree_if(
+    is_same: fn(f32, f32) -> bool,
+    by: &str,
+    names: &[&str],
+    ours: &[f32],
+    theirs: &[f32],
+) -> Result<(), String> {
     for ((name, &our), &their) in names.iter().zip(ours).zip(theirs) {
-        if !same(our, their) {
+        if !is_same(our, their) {
             let (our, their) = (shown(our), shown(their));
             return Err(format!("{name}: the port {our}, {by} {their}"));
         }

@@ -5,6 +5,7 @@
 //! |---|---|
 //! | `zeno` | zeno's three files, unchanged, and what they import |
 //! | `oracle` | safe functions over zeno: masks, cells and the commands that store them, runs, bounds, placements |
+//! | `combining` | one transform followed by another, as zeno has it through a swap; where it is exact; a table written by hand |
 //! | `numbers` | the dice, and numbers of every character |
 //! | `order` | the orders in which a row's places are filled |
 //! | `grid` | paths on the grid of 1/256 and beside it, and what moves them onto it or off it |
@@ -28,6 +29,7 @@
 
 pub mod alone;
 pub mod boundaries;
+pub mod combining;
 pub mod drawing;
 pub mod driver;
 pub mod fixture;

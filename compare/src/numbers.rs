@@ -95,6 +95,9 @@ impl Palette {
         Palette::Any,
     ];
 
+    /// Those without infinite numbers and NaN.
+    pub const FINITE: &'static [Palette] = Palette::ALL.split_at(5).0;
+
     pub fn draw(dice: &mut Dice) -> Palette {
         dice.pick(&Palette::ALL)
     }
@@ -242,6 +245,8 @@ mod tests {
             let drawn = palette.numbers(&mut dice, 20_000);
             let has = |test: fn(&f32) -> bool| drawn.iter().any(test);
             let last = palette == Palette::Any;
+            let is_finite = drawn.iter().all(|v| v.is_finite());
+            assert_eq!(is_finite, Palette::FINITE.contains(&palette), "{palette:?}");
             assert_eq!(has(|v| v.is_nan()), last, "{palette:?}");
             let infinite = last || palette == Palette::Infinite;
             assert_eq!(has(|v| v.is_infinite()), infinite, "{palette:?}");

@@ -1,7 +1,8 @@
 //! What zeno answers, as safe functions. Its transforms are called through their own functions
-//! (`translation`, `scale`, `then`, `then_scale`, `then_translate`, `pre_scale`, `pre_translate`,
-//! `transform_point`, `transform_vector`), its placements through `Placement::compute`, a box of
-//! points through `Bounds::from_points`; the rasterizer needs the care that stands here.
+//! (`translation`, `scale`, `then_translate`, `transform_point`, `transform_vector`; `then`,
+//! `then_scale`, `pre_scale` and `pre_translate` for the port's by `combining`), its placements through
+//! `Placement::compute`, a box of points through `Bounds::from_points`; the rasterizer needs the care
+//! that stands here.
 
 use std::rc::Rc;
 use std::slice;

@@ -4,9 +4,12 @@ use std::time::Instant;
 
 use crate::kinds::{bands::Bands, boxes::Boxes, lists::Lists, maps, placements::Placements};
 use crate::kinds::{
-    cells, cuts, drawings, filled, in_bands, lost_moves, no_room, run, stores, Kind,
+    by_hand, cells, cuts, drawings, filled, in_bands, lost_moves, moved_twice, no_room, run,
+    stores, unslanted, Kind,
 };
+use by_hand::ByHand;
 use compare::boundaries;
+use compare::combining;
 use compare::drawing::{
     at_a_boundary, at_the_cap, at_the_limits, cuts_at_once, cuts_in_a_band, cuts_in_bands,
     cuts_of_each_float, cuts_on_a_label, every_order, every_short_list, in_bands_at_the_cap,
@@ -27,8 +30,10 @@ use drawings::{Boundaries, Drawings, SmallDrawings};
 use filled::Filled;
 use in_bands::InBands;
 use lost_moves::LostMoves;
+use moved_twice::MovedTwice;
 use no_room::NoRoom;
 use stores::Stores;
+use unslanted::Unslanted;
 
 pub const USAGE: &str = "compare [--seed S] [--scale N] [--share N] [--only KIND]";
 
@@ -139,7 +144,10 @@ fn maps(run: &mut Run) -> Result<(), String> {
     for map in &maps::POINTS {
         run.scaled(map, 1_000_000)?;
     }
-    Ok(())
+    run.scaled(&Unslanted, 1_000_000)?;
+    run.scaled(&MovedTwice, 1_000_000)?;
+    let table = ByHand(combining::table());
+    run.counted(&table, table.0.len() as u64)
 }
 
 fn boxes(run: &mut Run) -> Result<(), String> {

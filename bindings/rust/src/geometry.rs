@@ -46,6 +46,28 @@ impl From<[f32; 2]> for Point {
 /// let t = Transform::identity().then_scale(2.0, -2.0).then_translate(0.0, 240.0);
 /// assert_eq!(t, Transform::new(2.0, 0.0, 0.0, -2.0, 0.0, 240.0));
 /// ```
+///
+/// A turn by an angle is `Transform::new(cos, sin, -sin, cos, 0.0, 0.0)`. A label of 400 × 120 that
+/// is turned by a quarter stands 120 × 400:
+///
+/// ```
+/// use mosszephyr::{Point, Transform};
+///
+/// let quarter = Transform::new(0.0, 1.0, -1.0, 0.0, 0.0, 0.0);
+/// let upright = quarter.then_translate(120.0, 0.0);
+/// assert_eq!(upright.transform_point((0.0, 0.0)), Point::new(120.0, 0.0));
+/// assert_eq!(upright.transform_point((400.0, 120.0)), Point::new(0.0, 400.0));
+///
+/// // Turned, and then twice as wide: 240 × 400.
+/// let wide = upright.then_scale(2.0, 1.0);
+/// assert_eq!(wide.transform_point((0.0, 0.0)), Point::new(240.0, 0.0));
+/// assert_eq!(wide.transform_point((400.0, 120.0)), Point::new(0.0, 400.0));
+///
+/// // Artwork of 200 × 120, made twice as wide, and then turned: 120 × 400 again.
+/// let stretched = Transform::scale(2.0, 1.0).then(upright);
+/// assert_eq!(stretched.transform_point((0.0, 0.0)), Point::new(120.0, 0.0));
+/// assert_eq!(stretched.transform_point((200.0, 120.0)), Point::new(0.0, 400.0));
+/// ```
 #[repr(C)]
 #[derive(Clone, Copy, Debug, PartialEq)]
 pub struct Transform {
@@ -63,11 +85,9 @@ pub struct Transform {
     pub y: f32,
 }
 
-/// All but `new` is done by the library, whose rules for transforms are zeno's.
-///
-/// [`then`](Transform::then) and those that are made from it are what their names say where no
-/// transform has an xy or a yx, as scales and moves have none. Where one has, as in a turned label,
-/// they are not: the rule is zeno's and is kept as it is.
+/// All but `new` is done by the library. Its rules for transforms are zeno's, but for
+/// [`then`](Transform::then) and the three that are made from it: zeno has xy and yx exchanged in
+/// them, so that a label which is turned and scaled comes out slanted.
 impl Transform {
     /// Leaves every point where it is.
     #[must_use]
@@ -100,41 +120,50 @@ impl Transform {
         face::scale(x, y)
     }
 
-    /// This transform a combined with the next, b:
+    /// This transform, a, followed by the next, b:
     ///
     /// | entry | is |
     /// |---|---|
-    /// | xx | a.xx · b.xx + a.yx · b.xy |
-    /// | xy | a.xy · b.xx + a.yy · b.xy |
-    /// | yx | a.xx · b.yx + a.yx · b.yy |
-    /// | yy | a.xy · b.yx + a.yy · b.yy |
-    /// | x | a.x · b.xx + a.y · b.xy + b.x |
-    /// | y | a.x · b.yx + a.y · b.yy + b.y |
+    /// | xx | a.xx · b.xx + a.xy · b.yx |
+    /// | xy | a.xx · b.xy + a.xy · b.yy |
+    /// | yx | a.yx · b.xx + a.yy · b.yx |
+    /// | yy | a.yx · b.xy + a.yy · b.yy |
+    /// | x | a.x · b.xx + a.y · b.yx + b.x |
+    /// | y | a.x · b.xy + a.y · b.yy + b.y |
+    ///
+    /// Every product and every sum is made, from the left, and rounded: products with 0 too, which
+    /// shows in the sign of a zero and where a number is not finite.
+    ///
+    /// It moves a point as a does and then as b does, but for the rounding. Where the entries and
+    /// the point are whole numbers and nothing is rounded on either way, it is proved to do just
+    /// that, 0 and −0 being equal: so where none of them is above 128 in size, or where none of xx,
+    /// xy, yx and yy is above 16 and none of the others above 4096.
     #[must_use]
     pub fn then(self, next: Transform) -> Transform {
         face::then(self, next)
     }
 
-    /// This transform combined with a scale: xx, xy and x are multiplied by `x`, yx, yy and y by
-    /// `y`.
+    /// This transform followed by a scale: xx, yx and x are multiplied by `x`, xy, yy and y by `y`.
     #[must_use]
     pub fn then_scale(self, x: f32, y: f32) -> Transform {
         face::then_scale(self, x, y)
     }
 
-    /// This transform followed by a move: adds to x and y.
+    /// This transform followed by a move: adds to x and y. The other entries stay as they are, even
+    /// the sign of a zero, which [`then`](Transform::then) with a translation need not keep.
     #[must_use]
     pub fn then_translate(self, x: f32, y: f32) -> Transform {
         face::then_translate(self, x, y)
     }
 
-    /// A scale combined with this transform: xx and yx are multiplied by `x`, xy and yy by `y`.
+    /// A scale followed by this transform: xx and xy are multiplied by `x`, yx and yy by `y`.
     #[must_use]
     pub fn pre_scale(self, x: f32, y: f32) -> Transform {
         face::pre_scale(self, x, y)
     }
 
-    /// A move combined with this transform: x · xx + y · xy is added to x, and x · yx + y · yy to y.
+    /// A move followed by this transform: x · xx + y · yx is added to x, and x · xy + y · yy to y,
+    /// so that they become where this transform sends (x, y).
     #[must_use]
     pub fn pre_translate(self, x: f32, y: f32) -> Transform {
         face::pre_translate(self, x, y)

@@ -9,6 +9,7 @@
 //! | draw many labels, with nothing allocated | [`Workspace::draw`] |
 //! | print a label band by band from a small buffer | [`Workspace::bands`] |
 //! | know where a path lies, and how large a label holds it | [`bounds`], [`placement`] |
+//! | turn, scale and move a label | [`Transform`], the label's field `transform` |
 //! | know whether artwork lies off the grid, and shows soft edges | [`Picture::cut`], [`Drawn::cut`], [`Bands::cut`], [`Placement::cut`] |
 //! | call the library's two drawings as they are, with memory of your own | [`draw_band`], [`draw_in_bands`] |
 //!
@@ -61,7 +62,8 @@
 //! | `bounds(&path, style, transform)` | [`bounds`]`(&path, transform)?` |
 //! | `Mask::with_scratch(&path, &mut scratch)`, `Scratch` | [`Workspace`], kept from label to label |
 //! | `Transform::IDENTITY`; `Transform::default()`, which is all zeros | [`Transform::identity`]; the default is the identity |
-//! | `Transform`'s `new`, `translation`, `scale`, `then`, `then_scale`, `then_translate`, `pre_scale`, `pre_translate`, `transform_point`, `transform_vector` | the same names and numbers, with transforms by value; a turn by an angle is `Transform::new(cos, sin, -sin, cos, 0.0, 0.0)` |
+//! | `Transform`'s `new`, `translation`, `scale`, `then_translate`, `transform_point`, `transform_vector` | the same names and numbers, with transforms by value; a turn by an angle is `Transform::new(cos, sin, -sin, cos, 0.0, 0.0)` |
+//! | its `then`, `then_scale`, `pre_scale`, `pre_translate`, which have xy and yx exchanged, so that turned labels come out slanted | the same names, for one transform followed by the other, turned ones too: drop what made up for the slant. Where xy and yx are 0 in both, the numbers are zeno's but for the signs of zeros; elsewhere, exchange xy and yx in both and in the answer to have zeno's |
 //! | input that makes it panic or walk without end | a [`Refusal`] |
 
 #![warn(missing_docs)]

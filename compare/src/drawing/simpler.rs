@@ -2,6 +2,7 @@
 //! order, so that shrinking ends. They are made as they are asked for: what is lent may be large.
 
 use super::Drawing;
+use crate::combining::{entries, transform_of};
 use crate::list;
 use crate::oracle::{Fill, Point, Transform};
 use crate::shrink::{shorter_lengths, simpler_numbers, Candidates};
@@ -105,10 +106,10 @@ fn smaller_sizes(sizes: [usize; 5]) -> Vec<[usize; 5]> {
 
 /// Simpler transforms and offsets. The identity is the simplest transform.
 pub fn simpler_floats(t: &Transform, offset: Point) -> Vec<(Transform, Point)> {
-    let parts = [t.xx, t.xy, t.yx, t.yy, t.x, t.y];
+    let parts = entries(*t);
     let identity = Transform::IDENTITY;
     let mut candidates = Vec::new();
-    if parts.map(f32::to_bits) != [1.0, 0.0, 0.0, 1.0, 0.0, 0.0].map(f32::to_bits) {
+    if parts.map(f32::to_bits) != entries(identity).map(f32::to_bits) {
         candidates.push((identity, offset));
         let simpler = simpler_numbers(&parts).into_iter();
         candidates.extend(simpler.map(|n| (transform_of(&n), offset)));
@@ -116,10 +117,6 @@ pub fn simpler_floats(t: &Transform, offset: Point) -> Vec<(Transform, Point)> {
     let offsets = simpler_numbers(&[offset.x, offset.y]).into_iter();
     candidates.extend(offsets.map(|n| (*t, Point::new(n[0], n[1]))));
     candidates
-}
-
-fn transform_of(n: &[f32]) -> Transform {
-    Transform::new(n[0], n[1], n[2], n[3], n[4], n[5])
 }
 
 #[cfg(test)]

@@ -35,7 +35,7 @@ impl Kind for Boxes {
             _ => dice.below(14),
         };
         let palette = match self {
-            Boxes::Finite => dice.pick(&Palette::ALL[..5]),
+            Boxes::Finite => dice.pick(Palette::FINITE),
             Boxes::Any => dice.pick(&[Palette::Infinite, Palette::Any, Palette::Finite]),
         };
         let mut numbers = palette.numbers(dice, count);

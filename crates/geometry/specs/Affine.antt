@@ -48,16 +48,16 @@ translationOf x y = transformOf oneF zeroF zeroF oneF x y
 abbrev pub scaleOf : Float → Float → Transform
 scaleOf x y = transformOf x zeroF zeroF y zeroF zeroF
 
--- xx = a.xx·b.xx + a.yx·b.xy, yx = a.xx·b.yx + a.yx·b.yy, xy = a.xy·b.xx + a.yy·b.xy, yy = a.xy·b.yx + a.yy·b.yy,
--- x = a.x·b.xx + a.y·b.xy + b.x, y = a.x·b.yx + a.y·b.yy + b.y, added up from left to right
+-- a followed by b: xx = a.xx·b.xx + a.xy·b.yx, xy = a.xx·b.xy + a.xy·b.yy, yx = a.yx·b.xx + a.yy·b.yx, yy = a.yx·b.xy + a.yy·b.yy,
+-- x = a.x·b.xx + a.y·b.yx + b.x, y = a.x·b.xy + a.y·b.yy + b.y, added up from left to right
 abbrev pub combineOf : Transform → Transform → Transform
 combineOf a b = record {
-  xx = plus (times (a .xx) (b .xx)) (times (a .yx) (b .xy));
-  yx = plus (times (a .xx) (b .yx)) (times (a .yx) (b .yy));
-  xy = plus (times (a .xy) (b .xx)) (times (a .yy) (b .xy));
-  yy = plus (times (a .xy) (b .yx)) (times (a .yy) (b .yy));
-  x = plus (plus (times (a .x) (b .xx)) (times (a .y) (b .xy))) (b .x);
-  y = plus (plus (times (a .x) (b .yx)) (times (a .y) (b .yy))) (b .y);
+  xx = plus (times (a .xx) (b .xx)) (times (a .xy) (b .yx));
+  xy = plus (times (a .xx) (b .xy)) (times (a .xy) (b .yy));
+  yx = plus (times (a .yx) (b .xx)) (times (a .yy) (b .yx));
+  yy = plus (times (a .yx) (b .xy)) (times (a .yy) (b .yy));
+  x = plus (plus (times (a .x) (b .xx)) (times (a .y) (b .yx))) (b .x);
+  y = plus (plus (times (a .x) (b .xy)) (times (a .y) (b .yy))) (b .y);
 }
 
 -- `then_translate` moves by x and y

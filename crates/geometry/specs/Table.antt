@@ -25,7 +25,7 @@ entries t = toBits binary32 (t .xx) ∷ toBits binary32 (t .xy) ∷ toBits binar
 
 -- ---- transforms
 
--- identity then scale (-1, 1): xy is 0·-1 + 1·0, which is +0
+-- identity then scale (-1, 1): yx is 0·-1 + 1·0, which is +0
 flipped : entries (combineOf identityOf (scaleOf (float 0xbf80_0000) (float 0x3f80_0000))) ≡ (0xbf80_0000 ∷ 0 ∷ 0 ∷ 0x3f80_0000 ∷ 0 ∷ 0 ∷ [])
 unfolding entries ofBits toBits add mul
 flipped = refl
@@ -35,23 +35,30 @@ chained : entries (translatedOf (combineOf identityOf (scaleOf (float 0x4000_000
 unfolding entries ofBits toBits add mul
 chained = refl
 
--- a quarter turn, then scale (2, 1), sends (1, 0) to (0, 2)
+-- a quarter turn, then scale (2, 1), sends (1, 0) to (0, 1): it is turned to (0, 1), of which the scale leaves y
 quarter : Transform
 quarter = transformOf (float 0) (float 0x3f80_0000) (float 0xbf80_0000) (float 0) (float 0) (float 0)
 
-turned : bits (moved (combineOf quarter (scaleOf (float 0x4000_0000) (float 0x3f80_0000))) (at 0x3f80_0000 0)) ≡ (0 ∷ 0x4000_0000 ∷ [])
+turned : bits (moved (combineOf quarter (scaleOf (float 0x4000_0000) (float 0x3f80_0000))) (at 0x3f80_0000 0)) ≡ (0 ∷ 0x3f80_0000 ∷ [])
 unfolding bits quarter ofBits toBits add mul
 turned = refl
 
--- a move by (3, 5), then the quarter turn: x takes xy from 5, and y takes yx from 3
+-- a move by (3, 5), then the quarter turn: (3, 5) is turned to (-5, 3)
 moved-then-turned :
     entries (combineOf (translationOf (float 0x4040_0000) (float 0x40a0_0000)) quarter)
-    ≡ (0 ∷ 0x3f80_0000 ∷ 0xbf80_0000 ∷ 0 ∷ 0x40a0_0000 ∷ 0xc040_0000 ∷ [])
+    ≡ (0 ∷ 0x3f80_0000 ∷ 0xbf80_0000 ∷ 0 ∷ 0xc0a0_0000 ∷ 0x4040_0000 ∷ [])
 unfolding entries quarter ofBits toBits add mul
 moved-then-turned = refl
 
--- 2 3 5 7 11 13, then 17 19 23 29 31 37: 2·17 + 5·19, 3·17 + 7·19, 2·23 + 5·29, 3·23 + 7·29,
--- 11·17 + 13·19 + 31, 11·23 + 13·29 + 37
+-- the other way round it stays (3, 5)
+turned-then-moved :
+    entries (combineOf quarter (translationOf (float 0x4040_0000) (float 0x40a0_0000)))
+    ≡ (0 ∷ 0x3f80_0000 ∷ 0xbf80_0000 ∷ 0 ∷ 0x4040_0000 ∷ 0x40a0_0000 ∷ [])
+unfolding entries quarter ofBits toBits add mul
+turned-then-moved = refl
+
+-- 2 3 5 7 11 13, then 17 19 23 29 31 37: 2·17 + 3·23, 2·19 + 3·29, 5·17 + 7·23, 5·19 + 7·29,
+-- 11·17 + 13·23 + 31, 11·19 + 13·29 + 37
 low-primes : Transform
 low-primes =
     transformOf (float 0x4000_0000) (float 0x4040_0000) (float 0x40a0_0000)
@@ -64,9 +71,34 @@ high-primes =
 
 each-product :
     entries (combineOf low-primes high-primes)
-    ≡ (0x4301_0000 ∷ 0x4338_0000 ∷ 0x433f_0000 ∷ 0x4388_0000 ∷ 0x43e8_8000 ∷ 0x4426_c000 ∷ [])
+    ≡ (0x42ce_0000 ∷ 0x42fa_0000 ∷ 0x4376_0000 ∷ 0x4395_0000 ∷ 0x4401_4000 ∷ 0x441b_c000 ∷ [])
 unfolding entries low-primes high-primes ofBits toBits add mul
 each-product = refl
+
+-- 2^24·1 + 1·1, then + 1: from the left each 1 is lost on the way, in x and in y
+from-the-left :
+    entries (combineOf
+    (transformOf (float 0) (float 0) (float 0) (float 0) (float 0x4b80_0000) (float 0x3f80_0000))
+    (transformOf (float 0x3f80_0000) (float 0x3f80_0000) (float 0x3f80_0000) (float 0x3f80_0000) (float 0x3f80_0000) (float 0x3f80_0000)))
+    ≡ (0 ∷ 0 ∷ 0 ∷ 0 ∷ 0x4b80_0000 ∷ 0x4b80_0000 ∷ [])
+unfolding entries ofBits toBits add mul
+from-the-left = refl
+
+-- -0 and 0 by turns, then a move by (-0, -0): `then_translate` keeps every -0, and combining with the translation none
+zeros : Transform
+zeros = transformOf (float 0x8000_0000) (float 0) (float 0x8000_0000) (float 0) (float 0x8000_0000) (float 0)
+
+zeros-kept :
+    entries (translatedOf zeros (float 0x8000_0000) (float 0x8000_0000))
+    ≡ (0x8000_0000 ∷ 0 ∷ 0x8000_0000 ∷ 0 ∷ 0x8000_0000 ∷ 0 ∷ [])
+unfolding entries zeros ofBits toBits add
+zeros-kept = refl
+
+zeros-lost :
+    entries (combineOf zeros (translationOf (float 0x8000_0000) (float 0x8000_0000)))
+    ≡ (0 ∷ 0 ∷ 0 ∷ 0 ∷ 0 ∷ 0 ∷ [])
+unfolding entries zeros ofBits toBits add mul
+zeros-lost = refl
 
 -- 0.1·0.1 + 0.2·0.2, then + 0.3, each rounded
 rounded : bits (moved (transformOf (float 0x3dcc_cccd) (float 0) (float 0x3e4c_cccd) (float 0) (float 0x3e99_999a) (float 0)) (at 0x3dcc_cccd 0x3e4c_cccd)) ≡ (0x3eb3_3334 ∷ 0 ∷ [])

@@ -94,20 +94,20 @@ impl Transform {
         }
     }
 
+    // This transform, followed by the other.
     pub fn combine(self, b: Transform) -> Transform
         ensures { λ r. ⌜ r ≡ combineOf self b ⌝ }
     {
         Transform {
-            xx: self.xx * b.xx + self.yx * b.xy,
-            xy: self.xy * b.xx + self.yy * b.xy,
-            yx: self.xx * b.yx + self.yx * b.yy,
-            yy: self.xy * b.yx + self.yy * b.yy,
-            x: self.x * b.xx + self.y * b.xy + b.x,
-            y: self.x * b.yx + self.y * b.yy + b.y,
+            xx: self.xx * b.xx + self.xy * b.yx,
+            xy: self.xx * b.xy + self.xy * b.yy,
+            yx: self.yx * b.xx + self.yy * b.yx,
+            yy: self.yx * b.xy + self.yy * b.yy,
+            x: self.x * b.xx + self.y * b.yx + b.x,
+            y: self.x * b.xy + self.y * b.yy + b.y,
         }
     }
 
-    // This transform, followed by the other.
     pub fn then(self, other: Transform) -> Transform
         ensures { λ r. ⌜ r ≡ combineOf self other ⌝ }
     {

@@ -89,14 +89,14 @@ translation a b = record { xx = one; xy = zero; yx = zero; yy = one; x = a; y = 
 abbrev pub identity : Transform
 identity = scale one one
 
-abbrev pub combine : Transform → Transform → Transform  -- of a and b; what is scaled is combined with a scale
+abbrev pub combine : Transform → Transform → Transform  -- a followed by b; what is scaled is combined with a scale
 combine a b = record {
-  xx = a .xx ⊗ b .xx ⊕ a .yx ⊗ b .xy;
-  yx = a .xx ⊗ b .yx ⊕ a .yx ⊗ b .yy;
-  xy = a .xy ⊗ b .xx ⊕ a .yy ⊗ b .xy;
-  yy = a .xy ⊗ b .yx ⊕ a .yy ⊗ b .yy;
-  x = a .x ⊗ b .xx ⊕ a .y ⊗ b .xy ⊕ b .x;
-  y = a .x ⊗ b .yx ⊕ a .y ⊗ b .yy ⊕ b .y;
+  xx = a .xx ⊗ b .xx ⊕ a .xy ⊗ b .yx;
+  xy = a .xx ⊗ b .xy ⊕ a .xy ⊗ b .yy;
+  yx = a .yx ⊗ b .xx ⊕ a .yy ⊗ b .yx;
+  yy = a .yx ⊗ b .xy ⊕ a .yy ⊗ b .yy;
+  x = a .x ⊗ b .xx ⊕ a .y ⊗ b .yx ⊕ b .x;
+  y = a .x ⊗ b .xy ⊕ a .y ⊗ b .yy ⊕ b .y;
 }
 
 abbrev pub thenTranslate : Transform → Float → Float → Transform  -- a move behind a transform only adds to x and y

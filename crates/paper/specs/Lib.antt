@@ -9,4 +9,5 @@ pub mod Cells
 pub mod Bytes
 pub mod Drawing
 pub mod Placing
+pub mod Combining
 pub mod Demands

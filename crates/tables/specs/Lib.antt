@@ -3,3 +3,4 @@ pub mod Tried
 pub mod Table
 pub mod Trials
 pub mod Values
+pub mod Turned

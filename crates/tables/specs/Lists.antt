@@ -158,23 +158,23 @@ n17 = 0x4188_0000
 abbrev pub n19 : ℕ
 n19 = 0x4198_0000
 
-abbrev pub n31 : ℕ
-n31 = 0x41f8_0000
+abbrev pub n25 : ℕ
+n25 = 0x41c8_0000
 
-abbrev pub n39 : ℕ
-n39 = 0x421c_0000
+abbrev pub n28 : ℕ
+n28 = 0x41e0_0000
 
-abbrev pub n46 : ℕ
-n46 = 0x4238_0000
+abbrev pub n57 : ℕ
+n57 = 0x4264_0000
 
-abbrev pub n58 : ℕ
-n58 = 0x4268_0000
+abbrev pub n64 : ℕ
+n64 = 0x4280_0000
 
-abbrev pub n94 : ℕ
-n94 = 0x42bc_0000
+abbrev pub n100 : ℕ
+n100 = 0x42c8_0000
 
-abbrev pub n117 : ℕ
-n117 = 0x42ea_0000
+abbrev pub n112 : ℕ
+n112 = 0x42e0_0000
 
 abbrev pub n140 : ℕ
 n140 = 0x430c_0000
@@ -200,8 +200,23 @@ n4096·004 = 0x4580_0008
 abbrev pub n4097 : ℕ
 n4097 = 0x4580_0800
 
+abbrev pub n1048576 : ℕ  -- 2^20
+n1048576 = 0x4980_0000
+
 abbrev pub n16777216 : ℕ
 n16777216 = 0x4b80_0000
+
+abbrev pub n16781312 : ℕ
+n16781312 = 0x4b80_0800
+
+abbrev pub n50356224 : ℕ
+n50356224 = 0x4c40_1800
+
+abbrev pub n50356228 : ℕ  -- the float above it
+n50356228 = 0x4c40_1801
+
+abbrev pub 2^40 : ℕ
+2^40 = 0x5380_0000
 
 abbrev pub huge : ℕ  -- 3e38
 huge = 0x7f61_b1e6

@@ -25,9 +25,9 @@ use Rattle.paper.specs.Cells.{Pair, pairAt, lifted, spotIn, marksBy, trail, pen
 use Rattle.paper.specs.Bytes.{coverUpTo, areaAt, value, byteOf}
 use Rattle.paper.specs.Drawing.{pool, fitting, bandsFrom}
 use Rattle.paper.specs.Placing.{floor, ceil}
-use Rattle.tables.specs.Lists.{−4096·004, −4096, −3, −1·0005, −1, −0·999, −0·5, −0·0039, −0·003, n0}
+use Rattle.tables.specs.Lists.{−4096·004, −4096, −5, −3, −1·0005, −1, −0·999, −0·5, −0·0039, −0·003, n0}
 use Rattle.tables.specs.Lists.{−0·002, −0, least, n0·0001, n0·5, n0·999, n1, n1·0002, n1·002, n1·5, n2, n3, n4, n5, n6, n7, n8, n9}
-use Rattle.tables.specs.Lists.{n10, n11, n12, n13, n14, n17, n19, n31, n39, n46, n58, n94, n117, n140}
+use Rattle.tables.specs.Lists.{n10, n11, n12, n13, n14, n17, n19, n25, n28, n57, n64, n100, n112, n140}
 use Rattle.tables.specs.Lists.{n197, n2048, n4096, n4096·0034, n4096·004, n16777216, infinite, notNumber}
 use Rattle.tables.specs.Lists.{affine, banded, label, under, shiftedBy}
 
@@ -124,19 +124,19 @@ pub record Values : Type 0 where
   pub rounded-once : moved (affine n1·0002 n0 −1·0005 n1 n0 n0) (at n1·0002 n1) ≡ at n0 n1
   -- the offset is added last: 2048 + 2^−13 is 2048, twice
   pub offset-last : shifted (at n0·0001 n5) (moved (affine n1 n0 n0 n1 n0·0001 n0) (at n2048 n0)) ≡ at n2048 n5
-  -- a move by (3,5), then a quarter turn
-  pub moved-turned : combine (translation (float n3) (float n5)) (affine n0 n1 −1 n0 n0 n0) ≡ affine n0 n1 −1 n0 n5 −3
+  -- a move by (3,5), then a quarter turn, which sends (3,5) to (−5,3)
+  pub moved-turned : combine (translation (float n3) (float n5)) (affine n0 n1 −1 n0 n0 n0) ≡ affine n0 n1 −1 n0 −5 n3
   -- a quarter turn, then a move by (3,5)
   pub turned-moved : combine (affine n0 n1 −1 n0 n0 n0) (translation (float n3) (float n5)) ≡ affine n0 n1 −1 n0 n3 n5
   -- 1 to 6, then 7 to 12
-  pub combined : combine (affine n1 n2 n3 n4 n5 n6) (affine n7 n8 n9 n10 n11 n12) ≡ affine n31 n46 n39 n58 n94 n117
+  pub combined : combine (affine n1 n2 n3 n4 n5 n6) (affine n7 n8 n9 n10 n11 n12) ≡ affine n25 n28 n57 n64 n100 n112
   -- its sums are from the left
   pub combined-from-left :
       combine (affine n1 n2 n3 n4 n16777216 n1) (affine n1 n1 n1 n1 n1 n1)
-      ≡ affine n4 n6 n4 n6 n16777216 n16777216
+      ≡ affine n3 n3 n7 n7 n16777216 n16777216
   -- then a move by (7,8)
   pub then-moved : thenTranslate (affine n1 n2 n3 n4 n5 n6) (float n7) (float n8) ≡ affine n1 n2 n3 n4 n12 n14
-  -- a translation, a scale, the identity; the identity then scaled by (−1,1) has xy = +0
+  -- a translation, a scale, the identity; the identity then scaled by (−1,1) has yx = +0
   pub a-translation : translation (float n3) (float n5) ≡ affine n1 n0 n0 n1 n3 n5
   pub a-scale : scale (float n3) (float n5) ≡ affine n3 n0 n0 n5 n0 n0
   pub the-identity : identity ≡ affine n1 n0 n0 n1 n0 n0
