@@ -63,7 +63,7 @@
 //! | `Mask::with_scratch(&path, &mut scratch)`, `Scratch` | [`Workspace`], kept from label to label |
 //! | `Transform::IDENTITY`; `Transform::default()`, which is all zeros | [`Transform::identity`]; the default is the identity |
 //! | `Transform`'s `new`, `translation`, `scale`, `then_translate`, `transform_point`, `transform_vector` | the same names and numbers, with transforms by value; a turn by an angle is `Transform::new(cos, sin, -sin, cos, 0.0, 0.0)` |
-//! | its `then`, `then_scale`, `pre_scale`, `pre_translate`, which have xy and yx exchanged, so that turned labels come out slanted | the same names, for one transform followed by the other, turned ones too: drop what made up for the slant. Where xy and yx are 0 in both, the numbers are zeno's but for the signs of zeros; elsewhere, exchange xy and yx in both and in the answer to have zeno's |
+//! | its `then`, `then_scale`, `pre_scale`, `pre_translate`, which have xy and yx exchanged, so that turned labels come out slanted | the same names, for one transform followed by the other, turned ones too: drop what made up for the slant. Where xy and yx are 0 in both and all numbers are finite, the answers are zeno's but for the signs of zeros; elsewhere, exchange xy and yx in both and in the answer to have zeno's |
 //! | input that makes it panic or walk without end | a [`Refusal`] |
 
 #![warn(missing_docs)]

@@ -91,7 +91,7 @@ zeros = transformOf (float 0x8000_0000) (float 0) (float 0x8000_0000) (float 0) 
 zeros-kept :
     entries (translatedOf zeros (float 0x8000_0000) (float 0x8000_0000))
     ≡ (0x8000_0000 ∷ 0 ∷ 0x8000_0000 ∷ 0 ∷ 0x8000_0000 ∷ 0 ∷ [])
-unfolding entries zeros ofBits toBits add
+unfolding entries zeros ofBits toBits add mul
 zeros-kept = refl
 
 zeros-lost :

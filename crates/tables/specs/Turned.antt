@@ -1,15 +1,16 @@
--- docs/RULES.md, "Transforms": points under two transforms, combined and one after the other, by values.
-use Prim.Native.Nat.{ℕ, _+_, _*_, _^_, _≤_}
+-- docs/RULES.md, "From floats to 24.8 numbers": points under two transforms, combined and one after the other, by values.
+use Prim.Native.Nat.{_^_}
 use mathlib.Core.Path.{_≡_, refl}
 use lib.Dec.{lit≤}
-use lib.IntN.{ℤ, pos, negℤ, natAbs}
-use lib.Ieee.{binary32, ofBits, add, mul}
+use lib.IntN.{pos, negℤ}
+use lib.Ieee.{ofBits, add, mul}
 use Rattle.geometry.specs.declared.Point.{Point}
 use Rattle.geometry.specs.declared.Transform.{Transform}
 use Rattle.geometry.specs.Bits.{float, at}
 use Rattle.paper.specs.Floats.{moved, translation, scale, combine}
 use Rattle.paper.specs.Combining.{Is, Whole, Exact, Entries, Within, Small, combineInRust}
-use Rattle.paper.proofs.Combining.{product-at, sum-at, combining}
+use Rattle.paper.proofs.Wholes.{product-at, sum-at}
+use Rattle.paper.proofs.Combining.{combining}
 use Rattle.tables.specs.Lists.{−4096, −5, −2, −1, −0, n0, n1, n2, n3, n4, n5, n6, n4096, n4097}
 use Rattle.tables.specs.Lists.{n1048576, n16781312, n50356224, n50356228, 2^40, affine}
 
