@@ -29,17 +29,17 @@ move = translation (float n3) (float n5)
 abbrev longer : Transform  -- x 2^20 times as long
 longer = scale (float n1048576) (float n1)
 
-abbrev odd : Transform
+abbrev odd : Transform  -- x 4,097 times as long
 odd = scale (float n4097) (float n1)
 
-abbrev back : Transform  -- 4,096 times y is taken from x
+abbrev back : Transform  -- 4,096 times y taken from x
 back = affine n1 n0 −4096 n1 n0 n0
 
-abbrev unsigned : Transform
-unsigned = affine n1 n0 −0 −1 −0 n0
+abbrev mirror : Transform  -- y turned over, and some zeros −0
+mirror = affine n1 n0 −0 −1 −0 n0
 
-abbrev minus : Transform
-minus = affine n1 n0 −0 n1 −0 n0
+abbrev still : Transform  -- nothing moved, and some zeros −0
+still = affine n1 n0 −0 n1 −0 n0
 
 -- where p goes: under both combined, under a and then b, and under both as the Rust combines them
 pub record Sent (a b : Transform) (p combined twice inRust : Point) : Type 0 where
@@ -65,15 +65,16 @@ pub record Turned : Type 0 where
   pub rounded : Sent odd odd (at n3 n0) (at n50356224 n0) (at n50356228 n0) (at n50356224 n0)
   -- in the combined transform the point meets 4097·4097, and apart it does not: 4097 − 4096, then 4097 times that
   pub cancelled : Sent back odd (at n4097 n1) (at n4096 n1) (at n4097 n1) (at n16781312 n1)
-  -- 0 and −0, which count as one
-  pub zeros : Sent unsigned minus (at −0 n0) (at n0 n0) (at −0 n0) (at n0 n0)
+  -- exact again, and 0 and −0, which count as one
+  pub zeros : Sent mirror still (at −0 n0) (at n0 n0) (at −0 n0) (at n0 n0)
+  pub zeros-exact : Exact mirror still (at −0 n0)
 
 -- ---- whole numbers
 abbrev Entries128 : Transform → Type 0
 Entries128 t = Entries (Within 128) (Within 128) t
 
 within : Within 128 (float n0) × Within 128 (float n1) × Within 128 (float n2) × Within 128 (float n3)
-    × Within 128 (float n5) × Within 128 (float −1)
+    × Within 128 (float n5) × Within 128 (float −1) × Within 128 (float −0)
 unfolding Is ofBits
 within = (
   (pos 0, (0, refl, refl), lit≤ tt),
@@ -82,12 +83,20 @@ within = (
   (pos 3, (3, refl, refl), lit≤ tt),
   (pos 5, (5, refl, refl), lit≤ tt),
   (negℤ (pos 1), (1, refl, refl), lit≤ tt),
+  (pos 0, (0, refl, refl), lit≤ tt),
 )
 
-turns : Entries128 quarter × Entries128 wide × Entries128 shear × Entries128 move
+turns : Entries128 quarter × Entries128 wide × Entries128 shear × Entries128 move × Entries128 mirror
+    × Entries128 still
 turns =
-    let (o, i, two, three, five, minus-one) = within in
-    ((o, i, minus-one, o, o, o), (two, o, o, i, o, o), (i, o, i, i, o, o), (i, o, o, i, three, five))
+    let (o, i, two, three, five, −i, −o) = within in (
+      (o, i, −i, o, o, o),
+      (two, o, o, i, o, o),
+      (i, o, i, i, o, o),
+      (i, o, o, i, three, five),
+      (i, o, −o, −i, −o, o),
+      (i, o, −o, i, −o, o),
+    )
 
 is : Is (float n0) (pos 0) × Is (float n1) (pos 1) × Is (float n1048576) (pos (2 ^ 20)) × Is (float 2^40) (pos (2 ^ 40))
 unfolding Is ofBits
@@ -149,4 +158,5 @@ turned =
       rounded = record { once = refl; apart = refl; rust = refl };
       cancelled = record { once = refl; apart = refl; rust = refl };
       zeros = record { once = refl; apart = refl; rust = refl };
+      zeros-exact = exact mirror still (at −0 n0) (turns .4, turns .5, within .6, o);
     }
