@@ -141,6 +141,9 @@ fn maps(run: &mut Run) -> Result<(), String> {
     for map in &maps::TRANSFORMS {
         run.scaled(map, 1_000_000)?;
     }
+    for map in &maps::COMBINING {
+        run.scaled(map, 2_750_000)?;
+    }
     for map in &maps::POINTS {
         run.scaled(map, 1_000_000)?;
     }

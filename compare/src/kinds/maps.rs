@@ -34,7 +34,7 @@ pub const IDENTITY: Map<6> = Map {
     zeno: |_| entries(Transform::IDENTITY),
 };
 
-pub const TRANSFORMS: [Map<6>; 9] = [
+pub const TRANSFORMS: [Map<6>; 5] = [
     Map {
         name: "translation",
         palettes: &Palette::ALL,
@@ -52,44 +52,12 @@ pub const TRANSFORMS: [Map<6>; 9] = [
         zeno: |n| entries(Transform::scale(n[0], n[1])),
     },
     Map {
-        name: "then_scale, through the swap",
-        palettes: &Palette::ALL,
-        inputs: &WITH_PAIR,
-        outputs: ENTRIES,
-        ours: |n| entries(face::then_scale(transform_of(n), n[6], n[7])),
-        zeno: |n| entries(combining::then_scale(transform_of(n), n[6], n[7])),
-    },
-    Map {
         name: "then_translate",
         palettes: &Palette::ALL,
         inputs: &WITH_PAIR,
         outputs: ENTRIES,
         ours: |n| entries(face::then_translate(transform_of(n), n[6], n[7])),
         zeno: |n| entries(transform_of(n).then_translate(n[6], n[7])),
-    },
-    Map {
-        name: "then, through the swap",
-        palettes: &Palette::ALL,
-        inputs: &WITH_TRANSFORM,
-        outputs: ENTRIES,
-        ours: |n| entries(face::then(transform_of(n), transform_of(&n[6..]))),
-        zeno: |n| entries(combining::then(transform_of(n), transform_of(&n[6..]))),
-    },
-    Map {
-        name: "pre_scale, through the swap",
-        palettes: &Palette::ALL,
-        inputs: &WITH_PAIR,
-        outputs: ENTRIES,
-        ours: |n| entries(face::pre_scale(transform_of(n), n[6], n[7])),
-        zeno: |n| entries(combining::pre_scale(transform_of(n), n[6], n[7])),
-    },
-    Map {
-        name: "pre_translate, through the swap",
-        palettes: &Palette::ALL,
-        inputs: &WITH_PAIR,
-        outputs: ENTRIES,
-        ours: |n| entries(face::pre_translate(transform_of(n), n[6], n[7])),
-        zeno: |n| entries(combining::pre_translate(transform_of(n), n[6], n[7])),
     },
     Map {
         name: "then_scale of the identity by finite numbers, with no swap",
@@ -106,6 +74,42 @@ pub const TRANSFORMS: [Map<6>; 9] = [
         outputs: ENTRIES,
         ours: |n| entries(face::pre_scale(face::identity(), n[0], n[1])),
         zeno: |n| entries(Transform::IDENTITY.pre_scale(n[0], n[1])),
+    },
+];
+
+/// Those that combine two transforms.
+pub const COMBINING: [Map<6>; 4] = [
+    Map {
+        name: "then, through the swap",
+        palettes: &Palette::ALL,
+        inputs: &WITH_TRANSFORM,
+        outputs: ENTRIES,
+        ours: |n| entries(face::then(transform_of(n), transform_of(&n[6..]))),
+        zeno: |n| entries(combining::then(transform_of(n), transform_of(&n[6..]))),
+    },
+    Map {
+        name: "then_scale, through the swap",
+        palettes: &Palette::ALL,
+        inputs: &WITH_PAIR,
+        outputs: ENTRIES,
+        ours: |n| entries(face::then_scale(transform_of(n), n[6], n[7])),
+        zeno: |n| entries(combining::then_scale(transform_of(n), n[6], n[7])),
+    },
+    Map {
+        name: "pre_scale, through the swap",
+        palettes: &Palette::ALL,
+        inputs: &WITH_PAIR,
+        outputs: ENTRIES,
+        ours: |n| entries(face::pre_scale(transform_of(n), n[6], n[7])),
+        zeno: |n| entries(combining::pre_scale(transform_of(n), n[6], n[7])),
+    },
+    Map {
+        name: "pre_translate, through the swap",
+        palettes: &Palette::ALL,
+        inputs: &WITH_PAIR,
+        outputs: ENTRIES,
+        ours: |n| entries(face::pre_translate(transform_of(n), n[6], n[7])),
+        zeno: |n| entries(combining::pre_translate(transform_of(n), n[6], n[7])),
     },
 ];
 
