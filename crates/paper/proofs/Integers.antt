@@ -20,7 +20,7 @@ neg-times (pos (suc n)) (negsuc k) = sym (negℤ-negℤ (pos (suc n * suc k)))
 neg-times (negsuc n) (pos k) = sym (negℤ-negℤ (pos (suc n * k)))
 neg-times (negsuc n) (negsuc k) = refl
 
-pub spread : (a b c : ℤ) → (a +ℤ b) *ℤ c ≡ a *ℤ c +ℤ b *ℤ c
+spread : (a b c : ℤ) → (a +ℤ b) *ℤ c ≡ a *ℤ c +ℤ b *ℤ c
 spread a b c = ℤ-ind (λ (z : ℤ). (a +ℤ z) *ℤ c ≡ a *ℤ c +ℤ z *ℤ c)
     (rw (+ℤ-idr a, zero-*ℤ c, +ℤ-idr (a *ℤ c)))
     (λ n h. step (pos n) (pos (suc zero)) c (more (a +ℤ pos n) c) (more (pos n) c) h)
@@ -36,10 +36,10 @@ spread a b c = ℤ-ind (λ (z : ℤ). (a +ℤ z) *ℤ c ≡ a *ℤ c +ℤ z *ℤ
         ∙ +ℤ-assoc (a *ℤ c) (z *ℤ c) e
         ∙ ap (λ (k : ℤ). a *ℤ c +ℤ k) (sym g)
 
-pub spread-left : (a b c : ℤ) → a *ℤ (b +ℤ c) ≡ a *ℤ b +ℤ a *ℤ c
+spread-left : (a b c : ℤ) → a *ℤ (b +ℤ c) ≡ a *ℤ b +ℤ a *ℤ c
 spread-left a b c = *ℤ-comm a (b +ℤ c) ∙ spread b c a ∙ rw (*ℤ-comm b a, *ℤ-comm c a)
 
-pub times-assoc : (a b c : ℤ) → a *ℤ b *ℤ c ≡ a *ℤ (b *ℤ c)
+times-assoc : (a b c : ℤ) → a *ℤ b *ℤ c ≡ a *ℤ (b *ℤ c)
 times-assoc a b c = ℤ-ind (λ (z : ℤ). z *ℤ b *ℤ c ≡ z *ℤ (b *ℤ c))
     (rw (zero-*ℤ b, zero-*ℤ c, zero-*ℤ (b *ℤ c)))
     (λ n h. step (pos n) (pos (suc zero)) b (b *ℤ c) (more (pos n) b) refl (more (pos n) (b *ℤ c)) h)
