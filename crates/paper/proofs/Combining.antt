@@ -1,20 +1,23 @@
--- Combining does what specs/Combining.antt asks of it.
-use Prim.Native.Nat.{ℕ, _+_, _*_, _^_, _≤_, _<_}
+-- Combining does what specs/Combining.antt asks of it. Where every step is exact, both ways come to one whole number, since products go over sums
+-- (`columns`); and a float is fixed by the number that it is, but for a zero's sign (`same`). Small numbers stay within 2^24, up to which all are floats.
+use Prim.Native.Nat.{ℕ, _+_, _*_, _^_, _≤_}
 use mathlib.Core.Path.{_≡_, refl, sym, subst}
-use mathlib.Core.Bool.{Bool, true, false, true≢false}
+use mathlib.Core.Bool.{Bool, true, false}
+use mathlib.Core.Logic.{inl, inr}
 use native.Mathlib.Omega.{arith}
-use native.Mathlib.Nat.{one-mul, zero-mul, mul-assoc, mul-pos, add-mul, mul-add, mul-le-mul-left, mul-le-mul-right, le-trans, le-of-eq}
+use native.Mathlib.Nat.{one-mul, mul-assoc, add-mul, mul-add, mul-le-mul-left, mul-le-mul-right, le-trans, le-of-eq}
 use lib.Dec.{lit≤}
 use lib.IntN.{ℤ, pos, natAbs, _+ℤ_, _*ℤ_}
-use lib.Ieee.{Float, nan, inf, fin, binary32, up, down, unlike, round, add, mul, ofBits}
-use lib.Ieee.Fits.{down-pos, add-fits}
-use lib.Ieee.Scale.{round-same, finite}
+use lib.Ieee.{Float, fin, binary32, add, mul, ofBits}
+use lib.Ieee.Fits.{add-fits}
+use lib.Ieee.Scale.{finite}
 use Rattle.geometry.specs.declared.Point.{Point}
 use Rattle.geometry.specs.declared.Transform.{Transform}
 use Rattle.paper.specs.Floats.{_⊕_, _⊗_, moved, zero as zeroF, one, scale, identity, combine}
-use Rattle.paper.specs.Combining.{Is, Whole, Same, ExactProduct, ExactSum, ExactPair, ExactLine, ExactVector, ExactPoint, Entries, Exact, Twice, Within, Small, swap, combineInRust, Combining}
+use Rattle.paper.specs.Combining.{Is, Whole, Same, ExactProduct, ExactSum, ExactPair, ExactLine, ExactVector, ExactPoint, Entries, Exact, Twice, Within, Small, swap, combineInRust, SameEntries, Combining}
 use Rattle.paper.proofs.Integers.{columns, size-times, size-plus}
 use Rattle.paper.proofs.Wholes.{same, product-is, sum-is, product-at, sum-at}
+use Rattle.paper.proofs.Zeros.{Zero, zero-times, right-zero, left-zero, zeros-sum}
 
 -- ---- THE LAW
 pair-is : (x a y b : Float) (X A Y B : ℤ) → ExactPair x a y b → Is x X → Is a A → Is y Y → Is b B
@@ -151,33 +154,45 @@ module _ (n m : ℕ) (M : 1 ≤ m) (L : m + 2 * m * n + 4 * m * n * n ≤ 2 ^ 24
 swapped : (a b : Transform) → combine a b ≡ swap (combineInRust (swap a) (swap b))
 swapped a b = refl
 
--- 0 times a finite number is a zero, and with 0 it adds up to 0
-zero-round : (s : Bool) (a c : ℕ) → 0 < c → a ≡ 0 → round binary32 s a c ≡ fin s 0 (pos 0)
-unfolding round
-zero-round s a c C h = round-same binary32 s a c 0 1 C (lit≤ tt) (rw h (sym (zero-mul c)))
-
-zero-times : (v : Float) → finite v ≡ true → (s : Bool) × (zeroF ⊗ v ≡ fin s 0 (pos 0))
-unfolding ofBits mul
-zero-times nan h = absurd (true≢false (sym h))
-zero-times (inf s) h = absurd (true≢false (sym h))
-zero-times (fin t n d) h = (
-  unlike false t,
-  zero-round (unlike false t) (0 * (n * up d)) (1 * down d) (mul-pos (lit≤ tt) (down-pos d)) (zero-mul (n * up d)),
-)
-
 zeros-add : (s : Bool) → (one ⊗ zeroF ⊕ fin s 0 (pos 0) ≡ zeroF) × (fin s 0 (pos 0) ⊕ one ⊗ zeroF ≡ zeroF)
 unfolding ofBits add mul
 zeros-add false = (refl, refl)
 zeros-add true = (refl, refl)
 
+zero-is : Is zeroF (pos 0)
+unfolding Is ofBits
+zero-is = (0, refl, refl)
+
 no-more : (v : Float) → finite v ≡ true → (one ⊗ zeroF ⊕ zeroF ⊗ v ≡ zeroF) × (zeroF ⊗ v ⊕ one ⊗ zeroF ≡ zeroF)
-no-more v h = let z = zero-times v h in rw (z .1) (zeros-add (z .0))
+no-more v h = let z = zero-times zeroF v zero-is h .0 in rw (z .1) (zeros-add (z .0))
 
 scaled : (x y : Float) → finite x ≡ true → finite y ≡ true → combine identity (scale x y) ≡ combineInRust identity (scale x y)
 scaled x y h k =
     let f = no-more x h in
     let g = no-more y k in
     rw (f .1, g .0)
+
+finite-zero : finite zeroF ≡ true
+unfolding ofBits
+finite-zero = refl
+
+straight : (t : Transform) (x y : Float) → Is (t .xy) (pos 0) → Is (t .yx) (pos 0) → finite (t .xx) ≡ true
+    → finite (t .yy) ≡ true → finite x ≡ true → finite y ≡ true
+    → SameEntries (combine t (scale x y)) (combineInRust t (scale x y))
+straight t x y p q f g h k =
+    let xy-0 = zero-times (t .xy) zeroF p finite-zero .0 in
+    let yx-0 = zero-times (t .yx) zeroF q finite-zero .0 in
+    let xx-0 = zero-times zeroF (t .xx) zero-is f .1 in
+    let yy-0 = zero-times zeroF (t .yy) zero-is g .1 in
+    let zeros : (u v u′ v′ : Float) → Zero u → Zero v → Zero u′ → Zero v′ → Same (u ⊕ v) (u′ ⊕ v′) =
+    λ u v u′ v′ a b c d. inr (zeros-sum u v a b, zeros-sum u′ v′ c d) in (
+      rw (xy-0 .1, yx-0 .1) (right-zero (t .xx ⊗ x) (xy-0 .0) (yx-0 .0)),
+      zeros _ _ _ _ xx-0 (zero-times (t .xy) y p k .0) (zero-times (t .xy) x p h .0) yy-0,
+      zeros _ _ _ _ (zero-times (t .yx) x q h .0) yy-0 xx-0 (zero-times (t .yx) y q k .0),
+      rw (yx-0 .1, xy-0 .1) (left-zero (t .yy ⊗ y) (yx-0 .0) (xy-0 .0)),
+      inl refl,
+      inl refl,
+    )
 
 pub combining : Combining
 combining = record {
@@ -187,4 +202,5 @@ combining = record {
   upTo16 = λ a b p h. twice a b p (small _ _ (lit≤ tt) (lit≤ tt) a b p h);
   swapped = swapped;
   scaled = scaled;
+  straight = straight;
 }

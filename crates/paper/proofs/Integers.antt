@@ -1,5 +1,5 @@
 -- Integers: products go over sums, and sizes over both.
-use Prim.Native.Nat.{ℕ, zero, suc, _+_, _-_, _*_, _≤_}
+use Prim.Native.Nat.{ℕ, zero, suc, _+_, _*_, _≤_}
 use mathlib.Core.Path.{_≡_, refl, sym, ap, _∙_}
 use native.Mathlib.Omega.{arith}
 use lib.IntN.{ℤ, pos, negsuc, negℤ, natAbs, subℕ, _+ℤ_, _*ℤ_, ℤ-ind, +ℤ-idr, +ℤ-one, -ℤ-one, +ℤ-assoc, +ℤ-comm, negℤ-negℤ, zero-*ℤ, sucℤ-*ℤ, predℤ-*ℤ, *ℤ-comm}

@@ -1,4 +1,4 @@
--- Floats that are whole numbers: which numbers they are, and where their products and sums are exact.
+-- Floats that are whole numbers. Each is one number, and a number up to 2^24 is rounded to itself, so that products and sums of that size are exact.
 use Prim.Native.Nat.{ℕ, zero, suc, _+_, _-_, _*_, _^_, _≤_, _<_}
 use mathlib.Core.Path.{_≡_, refl, sym, ap, ap₂, _∙_, subst}
 use mathlib.Core.Bool.{Bool, true, false, not, cond, _&&_}
@@ -131,7 +131,7 @@ module _ (s : Bool) (m : ℕ) (e : ℤ) (t : Bool) (n : ℕ) (d : ℤ) (X Y : �
       subst (λ (v : Float). Is v (signed s X +ℤ signed t Y)) (sym (ap₂ (λ (i j : ℕ). sum binary32 s i t j c) f g))
       (sum-rounds c (mul-pos (down-pos e) (down-pos d)) X Y l s t)
 
-size-of : (s : Bool) (n : ℕ) (z : ℤ) → signed s n ≡ z → natAbs z ≡ n
+pub size-of : (s : Bool) (n : ℕ) (z : ℤ) → signed s n ≡ z → natAbs z ≡ n
 size-of s n z h = sym (ap natAbs h) ∙ abs-signed s n
 
 pub product-is : (u v : Float) (x y : ℤ) → Is u x → Is v y → natAbs x * natAbs y ≤ 2 ^ 24 → Is (u ⊗ v) (x *ℤ y)

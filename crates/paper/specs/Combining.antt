@@ -88,6 +88,11 @@ combineInRust a b = record {
   y = a .x ⊗ b .yx ⊕ a .y ⊗ b .yy ⊕ b .y;
 }
 
+abbrev pub SameEntries : Transform → Transform → Type 0
+SameEntries a b =
+    Same (a .xx) (b .xx) × Same (a .xy) (b .xy) × Same (a .yx) (b .yx) × Same (a .yy) (b .yy) × Same (a .x) (b .x)
+    × Same (a .y) (b .y)
+
 pub record Combining : Type 0 where
   pub twice : (a b : Transform) (p : Point) → Exact a b p → Twice a b p
   -- numbers are small enough where the largest sum, m + 2·m·n + 4·m·n·n, is at most 2^24
@@ -101,3 +106,7 @@ pub record Combining : Type 0 where
   -- the identity scaled by finite numbers is the Rust's as it stands
   pub scaled : (x y : Float) → finite x ≡ true → finite y ≡ true
       → combine identity (scale x y) ≡ combineInRust identity (scale x y)
+  -- and so, but for the sign of zeros, is a transform whose xy and yx are zeros
+  pub straight : (t : Transform) (x y : Float) → Is (t .xy) +0 → Is (t .yx) +0 → finite (t .xx) ≡ true
+      → finite (t .yy) ≡ true → finite x ≡ true → finite y ≡ true
+      → SameEntries (combine t (scale x y)) (combineInRust t (scale x y))

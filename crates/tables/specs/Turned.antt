@@ -68,6 +68,10 @@ pub record Turned : Type 0 where
   -- exact again, and 0 and −0, which count as one
   pub zeros : Sent mirror still (at −0 n0) (at n0 n0) (at −0 n0) (at n0 n0)
   pub zeros-exact : Exact mirror still (at −0 n0)
+  -- a mirror in x, then one in y: with no xy and no yx only a zero's sign is another in the Rust
+  pub mirrors : combine (scale (float −1) (float n1)) (scale (float n1) (float −1)) ≡ affine −1 −0 n0 −1 n0 n0
+  pub mirrors-in-rust :
+      combineInRust (scale (float −1) (float n1)) (scale (float n1) (float −1)) ≡ affine −1 n0 −0 −1 n0 n0
 
 -- ---- whole numbers
 abbrev Entries128 : Transform → Type 0
@@ -159,4 +163,6 @@ turned =
       cancelled = record { once = refl; apart = refl; rust = refl };
       zeros = record { once = refl; apart = refl; rust = refl };
       zeros-exact = exact mirror still (at −0 n0) (turns .4, turns .5, within .6, o);
+      mirrors = refl;
+      mirrors-in-rust = refl;
     }
