@@ -1,4 +1,4 @@
--- Zeros: a product of one with a finite number is one, and added to a number it changes nothing but the sign of a zero.
+-- Zeros: a zero times a finite number is a zero, and added to a number it changes nothing but the sign of a zero.
 use Prim.Native.Nat.{ℕ, _+_, _-_, _*_, _<_}
 use mathlib.Core.Path.{_≡_, refl, sym, ap, _∙_}
 use mathlib.Core.Bool.{Bool, true, false, cond, _&&_, true≢false}

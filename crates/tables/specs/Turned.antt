@@ -12,7 +12,7 @@ use Rattle.paper.specs.Combining.{Is, Whole, Exact, Entries, Within, Small, com
 use Rattle.paper.proofs.Wholes.{product-at, sum-at}
 use Rattle.paper.proofs.Combining.{combining}
 use Rattle.tables.specs.Lists.{−4096, −5, −2, −1, −0, n0, n1, n2, n3, n4, n5, n6, n4096, n4097}
-use Rattle.tables.specs.Lists.{n1048576, n16781312, n50356224, n50356228, 2^40, affine}
+use Rattle.tables.specs.Lists.{n1048576, n16781312, n16785408, n50356224, n50356228, 2^40, affine}
 
 abbrev quarter : Transform  -- (1,0) to (0,1), and (0,1) to (−1,0)
 quarter = affine n0 n1 −1 n0 n0 n0
@@ -34,6 +34,15 @@ odd = scale (float n4097) (float n1)
 
 abbrev back : Transform  -- 4,096 times y taken from x
 back = affine n1 n0 −4096 n1 n0 n0
+
+abbrev steep : Transform  -- x 4,097 times as long, and 4,096 times y taken from it
+steep = affine n4097 n0 −4096 n1 n0 n0
+
+abbrev spread : Transform  -- x 4,097 times as long, and 4,096 times x added to y
+spread = affine n4097 n4096 n0 n1 n0 n0
+
+abbrev less : Transform  -- y taken from x
+less = affine n1 n0 −1 n1 n0 n0
 
 abbrev mirror : Transform  -- y turned over, and some zeros −0
 mirror = affine n1 n0 −0 −1 −0 n0
@@ -63,8 +72,11 @@ pub record Turned : Type 0 where
   pub long-exact : Exact longer longer (at n1 n0)
   -- 4097·4097 is rounded, and so they part: 3·16785408, and 12291·4097
   pub rounded : Sent odd odd (at n3 n0) (at n50356224 n0) (at n50356228 n0) (at n50356224 n0)
-  -- in the combined transform the point meets 4097·4097, and apart it does not: 4097 − 4096, then 4097 times that
-  pub cancelled : Sent back odd (at n4097 n1) (at n4096 n1) (at n4097 n1) (at n16781312 n1)
+  -- they part where 4097·4097 is met on one way alone: in combining, 4097·4097 − 4096·4097 beside (4097 − 4096)·4097;
+  -- in moving the point under the combined transform; and in moving it twice
+  pub only-combined : Sent steep odd (at n1 n1) (at n4096 n1) (at n4097 n1) (at n16781312 n1)
+  pub only-once : Sent back odd (at n4097 n1) (at n4096 n1) (at n4097 n1) (at n16781312 n1)
+  pub only-twice : Sent spread less (at n4097 n0) (at n4097 n16781312) (at n4096 n16781312) (at n16785408 n16781312)
   -- exact again, and 0 and −0, which count as one
   pub zeros : Sent mirror still (at −0 n0) (at n0 n0) (at −0 n0) (at n0 n0)
   pub zeros-exact : Exact mirror still (at −0 n0)
@@ -160,7 +172,9 @@ turned =
       long = record { once = refl; apart = refl; rust = refl };
       long-exact = long-is-exact;
       rounded = record { once = refl; apart = refl; rust = refl };
-      cancelled = record { once = refl; apart = refl; rust = refl };
+      only-combined = record { once = refl; apart = refl; rust = refl };
+      only-once = record { once = refl; apart = refl; rust = refl };
+      only-twice = record { once = refl; apart = refl; rust = refl };
       zeros = record { once = refl; apart = refl; rust = refl };
       zeros-exact = exact mirror still (at −0 n0) (turns .4, turns .5, within .6, o);
       mirrors = refl;
