@@ -6,6 +6,7 @@ use mathlib.Core.Bool.{true, false}
 use mathlib.Core.List.{List, [], ◌∷◌, ◌++◌, append_assoc, append-nil}
 use native.Mathlib.Omega.{arith}
 use lib.ListN.{length, set, replicate}
+use Rattle.storage.specs.Answers.{Within}
 use Rattle.fixed.specs.declared.FixedPoint.{FixedPoint}
 use Rattle.fixed.specs.Split.{zero_point, point_of, split_cubic, Every}
 use Rattle.fixed.proofs.Range.{cubic_keeps}
@@ -176,13 +177,13 @@ module _ (a c d b : FixedPoint) (ra : Reach a) (rc : Reach c) (rd : Reach d) (rb
         deep = more (reach_flat (cubic a c d b) all-four) none;
       }
 
-  pub going-started : (f : Frame) (cap : ℕ) (ws : List ℕ) (pen : Pen) → Going f cap ws pen (along f a (cubic_points a c d b)) ws (started a c d b) 0 pen a
+  pub going-started : (f : Frame) (cap : ℕ) (ws : List ℕ) (pen : Pen) → Within cap pen.kept → Going f cap ws pen (along f a (cubic_points a c d b)) ws (started a c d b) 0 pen a
   unfolding cubics
-  going-started f cap ws pen =
+  going-started f cap ws pen w =
       record {
         standing = started-standing;
         from_in = ra;
         made = [];
-        drew = drew-none f cap;
+        drew = drew-none f cap w;
         rest = ap (along f a) (sym (reach-points a c d b all-four));
       }

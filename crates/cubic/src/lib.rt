@@ -1,6 +1,7 @@
 // Cubics, from zeno's raster.rs: a cubic is split in halves over a stack of points until each part is nearly straight,
 // and a line goes to the end of each part. p0 is a cubic's end and p3 its start, as in the Rust.
 ghost use Rattle.std.specs.Prelude.{◌≡◌};
+ghost use Rattle.storage.specs.Answers.{Within};
 ghost use Rattle.fixed.specs.Fixed.{apart};
 ghost use Rattle.pen.specs.Drawing.{Ready, Drew};
 ghost use Rattle.line.specs.Range.{Reach};
@@ -96,7 +97,8 @@ fn flatten(
     d: FixedPoint,
     b: FixedPoint,
 ) -> Pen
-    requires ready { Ready f cap ws.old }
+    requires ready_1 { Ready f cap ws.old }
+    requires ready_2 { Within cap start.kept }
     requires reach_1 { Reach a }
     requires reach_2 { Reach c }
     requires reach_3 { Reach d }
@@ -149,7 +151,8 @@ pub fn curve_to(
     d: FixedPoint,
     b: FixedPoint,
 ) -> Pen
-    requires ready { Ready f cap ws.old }
+    requires ready_1 { Ready f cap ws.old }
+    requires ready_2 { Within cap pen.kept }
     requires reach_1 { Reach a }
     requires reach_2 { Reach c }
     requires reach_3 { Reach d }

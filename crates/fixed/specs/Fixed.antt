@@ -47,11 +47,6 @@ to_fixed nan = Refused
 to_fixed (inf s) = Refused
 to_fixed (fin s m e) = within_limit s (m * up e * 256 / down e) (is_cut (fin s m e))
 
--- the number as it is held, or 0, which no number is held as
-abbrev pub number_in : Fix → ℕ
-number_in (Fixed n r) = n
-number_in Refused = 0
-
 abbrev pub one_if : Bool → ℕ
 one_if b = cond b 1 0
 

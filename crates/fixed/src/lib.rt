@@ -1,7 +1,7 @@
 // 24.8 numbers, from the end of zeno's raster.rs: points of floats as fixed points by the point rule, the cell and
 // the fraction of a number, and curves split in two. A number z is held as z + BIAS, so that no number is below zero.
 ghost use Rattle.std.specs.Prelude.{◌≡◌, ◌+◌, ◌*◌, ◌/◌};
-ghost use Rattle.fixed.specs.Fixed.{number_in, to_fixed, spot_of, cell, fraction};
+ghost use Rattle.fixed.specs.Fixed.{to_fixed, spot_of, cell, fraction};
 ghost use Rattle.fixed.specs.Scaled.{fix_from};
 ghost use Rattle.fixed.specs.Split.{mid, mid4, mid8, split_quad, split_cubic};
 
@@ -77,35 +77,6 @@ pub fn from_point(p: Point) -> Spot
         },
         Fix::Refused => Spot::Outside,
     }
-}
-
-// The number of a count of 256ths by itself, or 0, which no number is held as.
-fn number_of(c: Cut) -> u32
-    ensures { result ≡ number_in (fix_from c) }
-{
-    match c {
-        Cut::Near {
-            below,
-            whole,
-            rest: _,
-        } => {
-            if LIMIT < whole {
-                return 0;
-            }
-            if below {
-                return BIAS - whole;
-            }
-            BIAS + whole
-        }
-        Cut::Far => 0,
-    }
-}
-
-// A coordinate by the point rule in one word: its number, or 0 where it is refused.
-pub fn number(v: f32) -> u32
-    ensures { result ≡ number_in (to_fixed v) }
-{
-    number_of(float::cut_float(v * 256.0))
 }
 
 // The cell of a number, held with BIAS / 256 added.

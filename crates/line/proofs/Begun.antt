@@ -13,7 +13,7 @@ use Rattle.line.specs.Course.{B, Bounded, Slanted, NE, NW, SE, SW, Course, ne, n
 use Rattle.line.proofs.Turning.{on_course}
 
 -- k·z, where z is w and a more
-pub split : (k w a z : ℕ) → w + a ≡ z → k * z ≡ k * w + a * k
+split : (k w a z : ℕ) → w + a ≡ z → k * z ≡ k * w + a * k
 split k w a z e = rw (← e, mul-add k w a, mul_comm k a)
 
 module _ (l : Ends) (c r fx fy P : ℕ) (ex : 256 * c + fx ≡ l.x1) (lx : fx < 256) (ey : 256 * r + fy ≡ l.y1) (ly : fy < 256)

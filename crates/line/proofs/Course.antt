@@ -9,7 +9,9 @@ use Rattle.fixed.specs.Fixed.{apart}
 use Rattle.float.specs.Differences.{◌⊖◌}
 use Rattle.float.proofs.Differences.{which}
 use Rattle.line.specs.declared.Ends.{Ends}
-use Rattle.line.specs.Walk.{Side, Left, Next, Right, Previous, way}
+use Rattle.line.specs.declared.Side.{Side}
+use Rattle.line.specs.declared.Side.TheVariants.{Left, Next, Right, Previous}
+use Rattle.line.specs.Walk.{way}
 use Rattle.line.specs.Course.{B, Bounded, Near, Fwd, Bwd, NE, NW, SE, SW, Course, ne, nw, se, sw, togo}
 use Rattle.line.proofs.Ways.{to-left, to-next, to-right, to-previous}
 
@@ -28,10 +30,10 @@ Moved l c r P Right = Move l c r (P + 256 * l.y2) (B + 256 * l.y1) (apart l.x2 l
 Moved l c r P Previous = (0 < r) × Move l c r P B (apart l.y2 l.y1) c (r - 1) (P + 256 * l.x2 - 256 * l.x1)
 
 -- ---- one axis: lengths and counts without a truncated difference
-pub fwd_size : {z1 z2 c a u : ℕ} → Fwd z1 z2 c a u → apart z2 z1 ≡ a
+fwd_size : {z1 z2 c a u : ℕ} → Fwd z1 z2 c a u → apart z2 z1 ≡ a
 fwd_size f = omega arith
 
-pub bwd_size : {z1 z2 c a u : ℕ} → Bwd z1 z2 c a u → apart z2 z1 ≡ a
+bwd_size : {z1 z2 c a u : ℕ} → Bwd z1 z2 c a u → apart z2 z1 ≡ a
 bwd_size f = omega arith
 
 fwd_cells : {z1 z2 c a u : ℕ} → Fwd z1 z2 c a u → apart (z2 / 256) c ≡ u / 256

@@ -5,9 +5,7 @@ pub mod Cases
 pub mod Ways
 pub mod Course
 pub mod Turning
-pub mod Quadrants
 pub mod Begun
-pub mod Starting
 pub mod Walking
 pub mod Trail
 pub mod Reached

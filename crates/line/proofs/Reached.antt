@@ -10,9 +10,13 @@ use Rattle.float.specs.Differences.{◌⊖◌}
 use Rattle.fixed.specs.Fixed.{cell, apart}
 use Rattle.line.specs.declared.Ends.{Ends}
 use Rattle.line.specs.declared.At.{At}
-use Rattle.line.specs.Walk.{Side, Left, Next, Right, Previous, start, last, upright, row_side, p, way, gone, cut, crossed}
+use Rattle.line.specs.declared.Rates.{Rates}
+use Rattle.line.specs.declared.Turn.{Turn}
+use Rattle.line.specs.declared.Side.{Side}
+use Rattle.line.specs.declared.Side.TheVariants.{Left, Next, Right, Previous}
+use Rattle.line.specs.Walk.{start, last, upright, row_side, p, way, gone, cut, crossed}
 use Rattle.line.specs.Lines.{sides}
-use Rattle.line.specs.Course.{B, Bounded, Slanted, Course, ne, nw, se, sw, Level, beside, rows_to, togo, Rates, Turn, Rated, Under, Stepped}
+use Rattle.line.specs.Course.{B, Bounded, Slanted, Course, ne, nw, se, sw, Level, beside, rows_to, togo, Rated, Under, Stepped}
 use Rattle.line.specs.Trail.{Boxed, cuts, UpTo, ended, also}
 use Rattle.line.proofs.Course.{Moved, moved}
 use Rattle.line.proofs.Turning.{stepped-left, stepped-next, stepped-right, stepped-previous}

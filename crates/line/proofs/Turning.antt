@@ -11,8 +11,11 @@ use Rattle.float.proofs.Differences.{⊖_add, ⊖_neg, ⊖_mul, ⊖_abs, ⊖_sam
 use Rattle.pen.specs.Marks.{Mark}
 use Rattle.line.specs.declared.Ends.{Ends}
 use Rattle.line.specs.declared.At.{At}
-use Rattle.line.specs.Walk.{Side, Left, Next, Right, Previous, over, way, crossing, dx, dy, q, t}
-use Rattle.line.specs.Course.{B, Bounded, Near, Course, ne, nw, se, sw, Rates, Rated, Under, Stepped}
+use Rattle.line.specs.declared.Rates.{Rates}
+use Rattle.line.specs.declared.Side.{Side}
+use Rattle.line.specs.declared.Side.TheVariants.{Left, Next, Right, Previous}
+use Rattle.line.specs.Walk.{over, way, crossing, dx, dy, q, t}
+use Rattle.line.specs.Course.{B, Bounded, Near, Course, ne, nw, se, sw, Rated, Under, Stepped}
 use Rattle.line.proofs.Course.{Moved, near}
 
 -- a crossing of a side is below 256
@@ -41,6 +44,20 @@ more_p P z1 z2 n h k = ⊖_same (P + 256 * z2 - 256 * z1) B (P + 256 * z2) (B + 
 
 less_p : (P z1 z2 : ℕ) → Near P → z1 < 2 ^ 22 → z2 < 2 ^ 22 → (P + 256 * z1 - 256 * z2) ⊖ B ≡ P ⊖ B -ℤ pos 256 *ℤ (z2 ⊖ z1)
 less_p P z1 z2 n h k = ⊖_same (P + 256 * z1 - 256 * z2) B (P + 256 * z1) (B + 256 * z2) (omega arith) ∙ sym (simp (⊖_mul, ⊖_neg, ⊖_add))
+
+-- what a course says of p + 256 times the way from z1 to z2, where it is the way on
+module _ (P z1 z2 n : ℕ) where
+  pub next-below : n ≡ P + 256 * z1 - 256 * z2 → P + 256 * z1 ≤ B + 256 * z2 → n ≤ B
+  next-below e h = omega arith
+
+  pub right-above : n ≡ P + 256 * z2 - 256 * z1 → B + 256 * z1 ≤ P + 256 * z2 → B ≤ n
+  right-above e h = omega arith
+
+  pub next_small : (d : ℕ) → n ≡ P + 256 * z1 - 256 * z2 → B + 256 * z2 ≤ P + 256 * z1 + d → B ≤ n + d
+  next_small d e h = omega arith
+
+  pub right-small : (d : ℕ) → n ≡ P + 256 * z2 - 256 * z1 → P + 256 * z2 ≤ B + 256 * z1 + d → n ≤ B + d
+  right-small d e h = omega arith
 
 turn_down : (P z1 z2 : ℕ) → Near P → z1 < 2 ^ 22 → z2 < 2 ^ 22 → B - (P + 256 * z1 - 256 * z2) ≡ B + 256 * z2 - (P + 256 * z1)
 turn_down P z1 z2 n h k = omega arith

@@ -16,9 +16,11 @@ use Rattle.pen.specs.Marks.{Mark, enter}
 use Rattle.pen.specs.Drawing.{Drew}
 use Rattle.line.specs.declared.Ends.{Ends}
 use Rattle.line.specs.declared.At.{At}
-use Rattle.line.specs.Walk.{Side, Next, Previous, pair, last, over, upright, way, cut, gone, crossed}
-use Rattle.line.specs.Course.{B, InCell, Level, Aside, beside, rows_to, togo, Turn, Stepped}
-use Rattle.line.specs.Steps.{p_at, Along}
+use Rattle.line.specs.declared.Turn.{Turn}
+use Rattle.line.specs.declared.Side.{Side}
+use Rattle.line.specs.declared.Side.TheVariants.{Next, Previous}
+use Rattle.line.specs.Walk.{pair, last, over, upright, way, cut, gone, crossed}
+use Rattle.line.specs.Course.{B, InCell, Level, Aside, beside, rows_to, togo, Under, Stepped}
 
 -- two more marks are drawn, and then the last
 pub drawn_more : (done : List Mark) {rest rest' all : List Mark} (x y : Mark) → done ++ rest ≡ all → rest ≡ x ∷ y ∷ rest' → (done ++ (x ∷ y ∷ [])) ++ rest' ≡ all
@@ -127,8 +129,8 @@ pub far_y : (l : Ends) (c r : ℕ) → (r ≡ l.y2 / 256 → ⊥) → 0 < togo l
 far_y l c r h = omega arith
 
 -- the loop of a slanted line: `done` is drawn, and the rest of the walk is still to be
-pub record Running (f : Frame) (cap : ℕ) (l : Ends) (ws₀ : List ℕ) (drawn₀ : Pen) (all : List Mark) (ws : List ℕ) (t : ℕ) (at : At) (drawn : Pen) : Type 0 where
-  pub along : Along l t at
+pub record Running (f : Frame) (cap : ℕ) (l : Ends) (ws₀ : List ℕ) (drawn₀ : Pen) (all : List Mark) (ws : List ℕ) (P : ℕ) (at : At) (drawn : Pen) : Type 0 where
+  pub under : Under l P at
   pub done : List Mark
   pub drew : Drew f cap ws₀ ws drawn₀ drawn done
-  pub same : done ++ crossed (togo l at.col at.row) l (p_at l t ⊖ B) at ≡ all
+  pub same : done ++ crossed (togo l at.col at.row) l (P ⊖ B) at ≡ all

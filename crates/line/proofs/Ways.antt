@@ -7,7 +7,8 @@ use lib.Dec.{leb, ltb}
 use Rattle.float.specs.Differences.{◌⊖◌}
 use Rattle.float.proofs.Differences.{⊖_add, ⊖_neg, ⊖_mul, ⊖_le, ⊖_ge, ⊖_gt}
 use Rattle.line.specs.declared.Ends.{Ends}
-use Rattle.line.specs.Walk.{Left, Next, Right, Previous, way}
+use Rattle.line.specs.declared.Side.TheVariants.{Left, Next, Right, Previous}
+use Rattle.line.specs.Walk.{way}
 use Rattle.line.specs.Course.{B}
 use Rattle.line.proofs.Tests.{no_lt, no_le, yes_lt, yes_le}
 

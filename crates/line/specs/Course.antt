@@ -5,6 +5,8 @@ use Rattle.fixed.specs.Fixed.{cell, apart}
 use Rattle.pen.specs.Marks.{Mark, enter}
 use Rattle.line.specs.declared.Ends.{Ends}
 use Rattle.line.specs.declared.At.{At}
+use Rattle.line.specs.declared.Rates.{Rates}
+use Rattle.line.specs.declared.Turn.{Turn}
 use Rattle.line.specs.Walk.{pair, over, way, cut, gone}
 
 -- p is held as p + 2^40
@@ -121,18 +123,7 @@ pub data Course (l : Ends) (c r P : ℕ) : Type 0 where
   se : SE l c r P → Course l c r P
   sw : SW l c r P → Course l c r P
 
--- the rates of a line: 16,777,215 over its width, and over its height
-pub record Rates : Type 0 where
-  pub x : ℕ
-  pub y : ℕ
-
--- one side crossed: the point at which the line leaves the cell, where it is then, and p + 2^40 there
-pub record Turn : Type 0 where
-  pub fx : ℕ
-  pub fy : ℕ
-  pub to : At
-  pub p : ℕ
-
+-- the rates of a line
 pub record Rated (l : Ends) (k : Rates) : Type 0 where
   pub small : Bounded l
   pub kx : k.x ≡ 16777215 / apart l.x2 l.x1

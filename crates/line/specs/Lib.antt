@@ -2,6 +2,5 @@ pub mod Range
 pub mod Walk
 pub mod Lines
 pub mod Course
-pub mod Steps
 pub mod Trail
 pub mod Table

@@ -7,6 +7,8 @@ use Rattle.fixed.specs.Fixed.{cell, fraction}
 use Rattle.pen.specs.Marks.{Mark, enter, give}
 use Rattle.line.specs.declared.Ends.{Ends}
 use Rattle.line.specs.declared.At.{At}
+use Rattle.line.specs.declared.Side.{Side}
+use Rattle.line.specs.declared.Side.TheVariants.{Left, Next, Right, Previous}
 
 -- where a line begins: its cell, and the point in the cell
 abbrev pub start : Ends → At
@@ -30,13 +32,6 @@ pair a fx2 fy2 = give (cover a fy2) (area a fx2 fy2)
 -- the last cell's pair, up to the end point
 abbrev pub last : Ends → At → List Mark
 last l a = pair a (fraction l.x2) (fraction l.y2) ∷ []
-
--- the side through which a line leaves a cell
-pub data Side : Type 0 where
-  Left : Side
-  Next : Side
-  Right : Side
-  Previous : Side
 
 -- one side crossed, z along it: the cell's pair, the next cell, and what follows from there
 abbrev pub over : Side → ℕ → At → (At → List Mark) → List Mark

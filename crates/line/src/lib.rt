@@ -1,16 +1,15 @@
 // Lines: a line is followed through the sides of its cells and gives each cell a pair. A 24.8 number z is held as
-// z + 2^21 and a cell as z + 8192. Through which side a slanted line leaves a cell is told by one number t, which is p, or p with its sign turned, moved so
-// far that it is never below zero: one test a cell.
+// z + 2^21 and a cell as z + 8192. Through which side a slanted line leaves a cell is told by one number, p, held as p + BIAS.
 ghost use Rattle.std.specs.Prelude.{◌≡◌, cond, [], ◌∷◌, ◌+◌, ◌-◌, ◌*◌, ◌/◌, ◌<◌, ◌≤◌, ◌^◌};
 ghost use Rattle.float.specs.Differences.{◌⊖◌};
+ghost use Rattle.storage.specs.Answers.{Within};
 ghost use Rattle.fixed.specs.Fixed.{cell, apart};
 ghost use Rattle.pen.specs.Marks.{enter, gave};
 ghost use Rattle.pen.specs.Drawing.{Ready, Drew, stand_of};
 ghost use Rattle.line.specs.Range.{Reach};
-ghost use Rattle.line.specs.Walk.{word, cover, area, pair, start, p, upright, row_side, crossed};
+ghost use Rattle.line.specs.Walk.{word, cover, area, pair, start, p, way, upright, row_side, crossed};
 ghost use Rattle.line.specs.Lines.{ends, sides, skips, marks_in, line_marks};
-ghost use Rattle.line.specs.Course.{B, Bounded, Slanted, InCell, Aside, togo, rows_to, beside};
-ghost use Rattle.line.specs.Steps.{p_at, edge_at, along_row, along_column, row_exit, column_exit, RowFree, ColumnFree, Sloped, Along, Passed};
+ghost use Rattle.line.specs.Course.{B, Bounded, Near, Slanted, Rated, Under, Stepped, InCell, Aside, togo, rows_to, beside};
 
 use fixed::FixedPoint;
 use pen::{Frame, Pen};
@@ -33,25 +32,33 @@ pub struct At {
     pub fy: u64,
 }
 
-// What the steps of a slanted line are made of: 256 times its width and its height, the t above which it leaves a cell through the row's side, and 16,777,215
-// over the width, and over the height.
+// The side through which a line leaves a cell.
 #[derive(Drop)]
-struct Slope {
-    wide: u64,
-    high: u64,
-    edge: u64,
+pub enum Side {
+    Left,
+    Next,
+    Right,
+    Previous,
+}
+
+// 16,777,215 over the line's width, and over its height.
+#[derive(Drop)]
+struct Rates {
     x: u64,
     y: u64,
 }
 
-// One side crossed: the point at which the line leaves the cell, where it is then, and t there.
+// One side crossed: the point at which the line leaves the cell, where it is then, and p there.
 #[derive(Drop)]
-struct Exit {
+struct Turn {
     fx: u64,
     fy: u64,
     to: At,
-    t: u64,
+    p: u64,
 }
+
+// What is added to p to hold it: 2^40.
+const BIAS: u64 = 1099511627776;
 
 // What a rate is a part of. One less than 2^24, so that a crossing is at most 255.
 const WHOLE: u64 = 16777215;
@@ -78,11 +85,11 @@ fn place(col: u64, row: u64, fx: u64, fy: u64) -> At
     At { col, row, fx, fy }
 }
 
-// An exit, as one value.
-fn left(fx: u64, fy: u64, to: At, t: u64) -> Exit
-    ensures { result ≡ record { fx = fx; fy = fy; to = to; t = t } }
+// A turn, as one value.
+fn turned(fx: u64, fy: u64, to: At, p: u64) -> Turn
+    ensures { result ≡ record { fx = fx; fy = fy; to = to; p = p } }
 {
-    Exit { fx, fy, to, t }
+    Turn { fx, fy, to, p }
 }
 
 // Where a line begins.
@@ -115,9 +122,10 @@ fn give(pen: Pen, at: At, fx: u64, fy: u64) -> Pen
 // The cell is left at (fx, fy), and the next one entered.
 fn cross(ws: &mut [u32], f: Frame, cap: usize, pen: Pen, at: At, fx: u64, fy: u64, to: At) -> Pen
     requires fact_1 { Ready f cap ws.old }
-    requires fact_2 { InCell at }
-    requires fact_3 { fx ≤ 256 }
-    requires fact_4 { fy ≤ 256 }
+    requires fact_2 { Within cap pen.kept }
+    requires fact_3 { InCell at }
+    requires fact_4 { fx ≤ 256 }
+    requires fact_5 { fy ≤ 256 }
     ensures { Drew f cap ws.old ws.new pen result (pair at fx fy ∷ enter to.col to.row ∷ []) }
 {
     let given = give(pen, at, fx, fy);
@@ -145,7 +153,8 @@ fn step_row(at: At, next: bool) -> At
 // A vertical line steps a row at a time.
 fn vertical(ws: &mut [u32], f: Frame, cap: usize, pen: Pen, l: Ends) -> Pen
     requires fact_1 { Ready f cap ws.old }
-    requires fact_2 { Bounded l }
+    requires fact_2 { Within cap pen.kept }
+    requires fact_3 { Bounded l }
     ensures { Drew f cap ws.old ws.new pen result (upright (rows_to l (cell l.y1)) (row_side l) l (start l)) }
 {
     let row = l.y2 / 256;
@@ -161,6 +170,34 @@ fn vertical(ws: &mut [u32], f: Frame, cap: usize, pen: Pen, l: Ends) -> Pen
     give(drawn, at, l.x2 % 256, l.y2 % 256)
 }
 
+// p and 256 times the way from z1 to z2.
+fn shifted(p: u64, z1: u64, z2: u64) -> u64
+    requires { (2 ^ 38 < p) × ((p < 2 ^ 42) × ((z1 < 2 ^ 22) × (z2 < 2 ^ 22))) }
+    ensures { result ≡ p + 256 * z2 - 256 * z1 }
+{
+    p + 256 * z2 - 256 * z1
+}
+
+// The side through which the line leaves a cell.
+fn way_out(l: Ends, p: u64) -> Side
+    requires fact_1 { Bounded l }
+    requires fact_2 { Near p }
+    ensures { result ≡ way l (p ⊖ B) }
+{
+    let q = shifted(p, l.x2, l.x1);
+    let s = shifted(q, l.y1, l.y2);
+    let t = shifted(p, l.y1, l.y2);
+    if p <= BIAS && BIAS < q {
+        Side::Left
+    } else if q <= BIAS && BIAS < s {
+        Side::Next
+    } else if s <= BIAS && BIAS <= t {
+        Side::Right
+    } else {
+        Side::Previous
+    }
+}
+
 // How far along a side it is crossed.
 fn crossing(a: u64, r: u64) -> u64
     requires { a * r < 2 ^ 40 }
@@ -169,85 +206,55 @@ fn crossing(a: u64, r: u64) -> u64
     (a * r) >> 24
 }
 
-// t as a way along the row's side, from its left end.
-fn along_row(l: Ends, k: Slope, t: u64) -> u64
-    requires { t ≤ k.high }
-    ensures { result ≡ along_row l k t }
-{
-    if l.x1 < l.x2 { k.high - t } else { t }
-}
-
-// t as a way along the column's side, from its upper end.
-fn along_column(l: Ends, k: Slope, t: u64) -> u64
-    requires { t ≤ k.wide }
-    ensures { result ≡ along_column l k t }
-{
-    if l.y1 < l.y2 { t } else { k.wide - t }
-}
-
-// Leaves a cell for the next row, or for the previous one; t is what it is there.
-fn to_row(l: Ends, k: Slope, t: u64, at: At) -> Exit
-    requires { RowFree l k t at }
-    ensures { result ≡ row_exit l k t at }
-{
-    let x = crossing(along_row(l, k, t), k.y);
-    if l.y1 < l.y2 {
-        return left(x, 256, place(at.col, at.row + 1, x, 0), t);
-    }
-    left(x, 0, place(at.col, at.row - 1, x, 256), t)
-}
-
-// Leaves a cell for the next column, or for the previous one; t is what it is here.
-fn to_column(l: Ends, k: Slope, t: u64, at: At) -> Exit
-    requires { ColumnFree l k t at }
-    ensures { result ≡ column_exit l k t at }
-{
-    let y = crossing(along_column(l, k, t), k.x);
-    if l.x1 < l.x2 {
-        return left(256, y, place(at.col + 1, at.row, 0, y), t + k.high);
-    }
-    left(0, y, place(at.col - 1, at.row, 256, y), t + k.high)
-}
-
 // Crosses the side through which the line leaves its cell.
-fn step(l: Ends, k: Slope, t: u64, at: At) -> Exit
-    requires fact_1 { Sloped l k }
-    requires fact_2 { Along l t at }
+fn step(l: Ends, k: Rates, p: u64, at: At) -> Turn
+    requires fact_1 { Rated l k }
+    requires fact_2 { Under l p at }
     requires fact_3 { 0 < togo l at.col at.row }
-    ensures { Passed l t at result }
+    ensures { Stepped l p at result }
 {
-    if k.edge < t {
-        return to_row(l, k, t - k.wide, at);
+    match way_out(l, p) {
+        Side::Left => {
+            let n = shifted(p, l.y2, l.y1);
+            let y = crossing(BIAS - p, k.x);
+            turned(0, y, place(at.col - 1, at.row, 256, y), n)
+        }
+        Side::Next => {
+            let q = shifted(p, l.x2, l.x1);
+            let x = crossing(BIAS - q, k.y);
+            turned(x, 256, place(at.col, at.row + 1, x, 0), q)
+        }
+        Side::Right => {
+            let t = shifted(p, l.y1, l.y2);
+            let y = crossing(t - BIAS, k.x);
+            turned(256, y, place(at.col + 1, at.row, 0, y), t)
+        }
+        Side::Previous => {
+            let n = shifted(p, l.x1, l.x2);
+            let x = crossing(p - BIAS, k.y);
+            turned(x, 0, place(at.col, at.row - 1, x, 256), n)
+        }
     }
-    to_column(l, k, t, at)
 }
 
 // From where a slanted line is to its end.
-fn walk(
-    ws: &mut [u32],
-    f: Frame,
-    cap: usize,
-    pen: Pen,
-    l: Ends,
-    k: Slope,
-    first: u64,
-    at: At,
-) -> Pen
+fn walk(ws: &mut [u32], f: Frame, cap: usize, pen: Pen, l: Ends, k: Rates, p: u64, at: At) -> Pen
     requires fact_1 { Ready f cap ws.old }
-    requires fact_2 { Sloped l k }
-    requires fact_3 { Along l first at }
-    ensures { Drew f cap ws.old ws.new pen result (crossed (togo l at.col at.row) l (p_at l first ⊖ B) at) }
+    requires fact_2 { Within cap pen.kept }
+    requires fact_3 { Rated l k }
+    requires fact_4 { Under l p at }
+    ensures { Drew f cap ws.old ws.new pen result (crossed (togo l at.col at.row) l (p ⊖ B) at) }
 {
     let col = l.x2 / 256;
     let row = l.y2 / 256;
     let mut drawn = pen;
-    let mut t = first;
+    let mut prod = p;
     let mut here = at;
     while here.col != col || here.row != row {
-        let e = step(l, k, t, here);
-        let to = e.to;
-        drawn = cross(ws, f, cap, drawn, here, e.fx, e.fy, to);
-        t = e.t;
+        let t = step(l, k, prod, here);
+        let to = t.to;
+        drawn = cross(ws, f, cap, drawn, here, t.fx, t.fy, to);
+        prod = t.p;
         here = to;
     }
     give(drawn, here, l.x2 % 256, l.y2 % 256)
@@ -260,32 +267,15 @@ fn gap(a: u64, b: u64) -> u64
     if a < b { b - a } else { a - b }
 }
 
-// The t above which a line leaves a cell through the row's side: a corner belongs to the column's side, but for lines that go left and down.
-fn edge_of(l: Ends, wide: u64) -> u64
-    requires { 0 < wide }
-    ensures { result ≡ edge_at l wide }
-{
-    if l.x1 < l.x2 {
-        return wide;
-    }
-    if l.y1 < l.y2 {
-        return wide - 1;
-    }
-    wide
-}
-
-// The slope of a line that is neither level nor vertical.
-fn slope_of(l: Ends) -> Slope
+// The rates of a line that is neither level nor vertical.
+fn rates_of(l: Ends) -> Rates
     requires fact_1 { Bounded l }
     requires fact_2 { Slanted l }
-    ensures { Sloped l result }
+    ensures { Rated l result }
 {
     let w = gap(l.x2, l.x1);
     let h = gap(l.y2, l.y1);
-    Slope {
-        wide: 256 * w,
-        high: 256 * h,
-        edge: edge_of(l, 256 * w),
+    Rates {
         x: WHOLE / w,
         y: WHOLE / h,
     }
@@ -296,30 +286,25 @@ fn scaled(f: u64, z: u64) -> u64
     requires fact_1 { f < 256 }
     requires fact_2 { z < 2 ^ 22 }
     ensures fact_1 { result ≡ f * z }
-    ensures fact_2 { result ≤ 255 * z }
+    ensures fact_2 { result < 2 ^ 30 }
 {
     f * z
 }
 
-// t where a line begins.
-fn first_t(l: Ends, k: Slope) -> u64
-    requires fact_1 { Slanted l }
-    requires fact_2 { Sloped l k }
-    ensures fact_1 { Along l result (start l) }
-    ensures fact_2 { p_at l result ⊖ B ≡ p l (start l) }
+// p where a line begins.
+fn product(l: Ends) -> u64
+    requires fact_1 { Bounded l }
+    requires fact_2 { Slanted l }
+    ensures fact_1 { Under l result (start l) }
+    ensures fact_2 { result ⊖ B ≡ p l (start l) }
 {
-    let a = scaled(l.y1 % 256, gap(l.x2, l.x1));
-    let b = scaled(l.x1 % 256, gap(l.y2, l.y1));
-    if l.x1 < l.x2 {
-        if l.y1 < l.y2 {
-            return k.high + a - b;
-        }
-        return k.wide + k.high - a - b;
-    }
-    if l.y1 < l.y2 {
-        return a + b;
-    }
-    k.wide + b - a
+    let fx = l.x1 % 256;
+    let fy = l.y1 % 256;
+    let a = scaled(fy, l.x2);
+    let b = scaled(fx, l.y1);
+    let c = scaled(fy, l.x1);
+    let d = scaled(fx, l.y2);
+    BIAS + a + b - c - d
 }
 
 // Both end rows at or past the band's end, or both before its first.
@@ -344,18 +329,20 @@ fn skipped(f: Frame, l: Ends) -> bool
 // A line that is neither level nor vertical.
 fn slanted(ws: &mut [u32], f: Frame, cap: usize, pen: Pen, l: Ends) -> Pen
     requires fact_1 { Ready f cap ws.old }
-    requires fact_2 { Bounded l }
-    requires fact_3 { Slanted l }
+    requires fact_2 { Within cap pen.kept }
+    requires fact_3 { Bounded l }
+    requires fact_4 { Slanted l }
     ensures { Drew f cap ws.old ws.new pen result (crossed (sides l) l (p l (start l)) (start l)) }
 {
-    let k = slope_of(l);
-    walk(ws, f, cap, pen, l, k, first_t(l, k), begin(l))
+    let k = rates_of(l);
+    walk(ws, f, cap, pen, l, k, product(l), begin(l))
 }
 
 // A line by its ends.
 fn draw(ws: &mut [u32], f: Frame, cap: usize, pen: Pen, l: Ends) -> Pen
     requires fact_1 { Ready f cap ws.old }
-    requires fact_2 { Bounded l }
+    requires fact_2 { Within cap pen.kept }
+    requires fact_3 { Bounded l }
     ensures { Drew f cap ws.old ws.new pen result (marks_in f l) }
 {
     if skipped(f, l) {
@@ -380,8 +367,9 @@ fn draw(ws: &mut [u32], f: Frame, cap: usize, pen: Pen, l: Ends) -> Pen
 // A line from a to b. The pen point is the caller's.
 pub fn line_to(ws: &mut [u32], f: Frame, cap: usize, pen: Pen, a: FixedPoint, b: FixedPoint) -> Pen
     requires fact_1 { Ready f cap ws.old }
-    requires fact_2 { Reach a }
-    requires fact_3 { Reach b }
+    requires fact_2 { Within cap pen.kept }
+    requires fact_3 { Reach a }
+    requires fact_4 { Reach b }
     ensures { Drew f cap ws.old ws.new pen result (line_marks f a b) }
 {
     draw(ws, f, cap, pen, ends_of(a, b))

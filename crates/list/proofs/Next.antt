@@ -70,8 +70,8 @@ module _ (s : List ℕ) (at : ℕ) where
   pub end-at : step_at s at ≡ step.End → length s ≤ at
   end-at e = subst Placed e placed
 
-  pub refused_at : (w : Reason) → step_at s at ≡ step.Refused w → at < length s
-  refused_at w e = subst Placed e placed
+  pub refused-at : (w : Reason) → step_at s at ≡ step.Refused w → at < length s
+  refused-at w e = subst Placed e placed
 
   module _ (c : Command) (next : ℕ) (e : step_at s at ≡ step.Command c next) where
     pub next-in : Within s at next

@@ -7,9 +7,8 @@ use lib.ListN.{length, drop, replicate, length-append, length-drop, length-repli
 use Rattle.geometry.specs.declared.Point.{Point}
 use Rattle.geometry.specs.declared.Transform.{Transform}
 use Rattle.storage.specs.Deposits.{Deposit}
-use Rattle.storage.specs.Answers.{kept_of, Stored}
+use Rattle.storage.specs.Cells.{Holds}
 use Rattle.storage.proofs.Pools.{cleared}
-use Rattle.storage.proofs.Stores.{kept_cells}
 use Rattle.pen.specs.Drawing.{rows as frameRows, width as frameWidth, Ready}
 use Rattle.path.specs.declared.Pool.{Pool}
 use Rattle.path.specs.Storing.{Filled}
@@ -51,8 +50,8 @@ module _ (width first end : ℕ) (ws : List ℕ) (z : Fits width first end (leng
           fits = omega (arith, z.ordered);
         }
 
-    none_yet : (n w : ℕ) → n ≡ rows → Stored ws' n w cap [] (kept_of cap 0)
-    none_yet n w r = rw (kept_cells cap 0 (omega arith), r, e) (cleared (drop rows ws) rows w)
+    none_yet : (n w : ℕ) → n ≡ rows → Holds ws' n w 0 []
+    none_yet n w r = rw (r, e) (cleared (drop rows ws) rows w)
 
     pub poured : (t : Transform) (o : Point) (s ws'' : List ℕ) (r : Pool) → Traced (frame_of width first end) cap ws' ws'' t o s r
         → Poured t o width first end s ws ws'' r

@@ -7,10 +7,11 @@ use lib.ListN.{length}
 use borrow.Author.Tests.{lt-ltb, le-ltb}
 use Rattle.geometry.specs.declared.Point.{Point}
 use Rattle.geometry.specs.declared.Transform.{Transform}
+use Rattle.storage.specs.declared.Kept.{Kept}
+use Rattle.storage.specs.declared.Kept.TheVariants as kept
 use Rattle.storage.specs.Deposits.{Deposit, distinct}
 use Rattle.storage.specs.Laws.{distinct_mono}
 use Rattle.storage.specs.Answers as store
-use Rattle.storage.proofs.Stores.{kept_cells, kept_full, kept_within}
 use Rattle.command.specs.declared.Command.{Command}
 use Rattle.list.specs.declared.Reason.{Reason}
 use Rattle.list.specs.declared.Step.TheVariants as step
@@ -45,8 +46,8 @@ module _ (cap : ℕ) (log ds : List Deposit) (each : List (List Deposit)) where
   one-fits h = rw (le-ltb _ _ h)
 
 -- a pool that holds a log holds no more places than it has
-few : (ws : List ℕ) (f : Frame) (cap : ℕ) (log : List Deposit) (n : ℕ) → n ≤ cap → Holding f cap ws n log → distinct log ≤ cap
-few ws f cap log n h H = let P = rw (kept_cells cap n h) at H in omega (arith, P.pool.counted)
+few : (ws : List ℕ) (f : Frame) (cap : ℕ) (log : List Deposit) (n : ℕ) → n ≤ cap → Holding f cap ws (kept.Cells n) log → distinct log ≤ cap
+few ws f cap log n h H = omega (arith, H.pool.counted)
 
 module _ (f : Frame) (cap : ℕ) (ws₀ : List ℕ) (t : Transform) (o : Point) (s : List ℕ) where
   -- what is stored of the marks `done`
@@ -67,10 +68,10 @@ module _ (f : Frame) (cap : ℕ) (ws₀ : List ℕ) (t : Transform) (o : Point) 
 
   pub record Tracking (ws : List ℕ) (track : Track) (at n : ℕ) : Type 0 where
     pub same : length ws ≡ length ws₀
-    pub sound : Sound track
+    pub sound : Sound cap track
     pub few : n ≤ at
     pub inside : at ≤ length s
-    pub going : (cs : List Command) → read_list t o s ≡ path cs → Holding f cap ws₀ 0 [] → Going cs ws track at n
+    pub going : (cs : List Command) → read_list t o s ≡ path cs → Holding f cap ws₀ (kept.Cells 0) [] → Going cs ws track at n
 
   begun-going : (cs : List Command) → read_list t o s ≡ path cs → Going cs ws₀ begun 0 0
   unfolding marks lifted stored_by left seen
@@ -78,7 +79,7 @@ module _ (f : Frame) (cap : ℕ) (ws₀ : List ℕ) (t : Transform) (o : Point) 
     rest = cs;
     unread = all-unread t o s cs e;
     done = [];
-    drew = drew-none f cap;
+    drew = drew-none f cap (omega arith);
     all = refl;
     fits = same_none;
   }
@@ -90,7 +91,7 @@ module _ (f : Frame) (cap : ℕ) (ws₀ : List ℕ) (t : Transform) (o : Point) 
   unfolding lifted
   begun-tracking = record {
     same = refl;
-    sound = record { near = corner_near; begun = corner_near };
+    sound = record { within = omega arith; near = corner_near; begun = corner_near };
     few = omega arith;
     inside = omega arith;
     going = λ cs e h. begun-going cs e;
@@ -138,56 +139,57 @@ module _ (f : Frame) (cap : ℕ) (ws₀ : List ℕ) (t : Transform) (o : Point) 
         unfolding strokes_of stored_from
         left-more = ap (Left track) on.splits ∙ rw (d.goes, d.starts, d.drew.stands)
 
-        held : Holding f cap ws₀ 0 [] → Holding f cap ws' track'.pen.kept (Stored h.done ++ gives)
+        held : Holding f cap ws₀ (kept.Cells 0) [] → Holding f cap ws' track'.pen.kept (Stored h.done ++ gives)
         unfolding lifted
         held H = d.drew.added.adds (Stored h.done) (h.drew.added.adds [] H)
 
         -- what it gives fits
-        more : Holding f cap ws₀ 0 [] → track'.pen.kept ≤ cap → Going cs ws' track' next (n + 1)
-        more H c = record {
+        more : Holding f cap ws₀ (kept.Cells 0) [] → (m : ℕ) → track'.pen.kept ≡ kept.Cells m → Going cs ws' track' next (n + 1)
+        more H m c = record {
           rest = on.behind;
           unread = on.unread;
           done = h.done ++ own;
           drew = drew-then f cap h.drew d.drew;
           all = all_more;
           fits =
-              let room : distinct (Stored h.done ++ gives) ≤ cap = few ws' f cap (Stored h.done ++ gives) track'.pen.kept c (held H) in
+              let room : distinct (Stored h.done ++ gives) ≤ cap = few ws' f cap (Stored h.done ++ gives) m (rw c at d.drew.within) (rw c at (held H)) in
               let e : fitting cap (Stored h.done) (Left track h.rest) ≡ 1 + fitting cap (Stored (h.done ++ own)) (Left track' on.behind) =
               rw (left-more, stored_more) (one-fits cap (Stored h.done) gives (Left track' on.behind) room) in
               omega (arith, h.fits);
         }
 
         -- or not
-        full-here : Holding f cap ws₀ 0 [] → cap < track'.pen.kept
+        full-here : Holding f cap ws₀ (kept.Cells 0) [] → track'.pen.kept ≡ kept.Full
             → Filled ws' (rows f) (width f) cap (deposits_of f (strokes_of t o cs)) (stored_by f (strokes_of t o cs)) (Full n)
         full-here H c =
-            let over : cap < distinct (Stored h.done ++ gives) = rw (kept_full cap track'.pen.kept c) at (held H) in
+            let over : cap < distinct (Stored h.done ++ gives) = rw c at (held H) in
             let e : fitting cap (Stored h.done) (Left track h.rest) ≡ 0 = rw left-more (none-fits cap (Stored h.done) gives (Left track' on.behind) over) in
             let grows = distinct_mono (Stored h.done ++ gives) (seen f (whole (after nowhere (h.done ++ own)) (marks_from f track'.at track'.start (strokes_of t o on.behind)))) in (
               rw (front (h.done ++ own) _ cs all_more, stored_more) (omega arith),
               omega (arith, h.fits),
             )
 
-      pub goes_on : track'.pen.kept ≤ cap → ReachAll (stroke_of t o k) → Tracking ws' track' next (n + 1)
-      goes_on p r =
-          let b = next-in s at k next e in
-          record {
-            same = d.drew.added.same ∙ g.same;
-            sound = still_sound g.sound r d;
-            few = omega (arith, g.few, b.past);
-            inside = b.inside;
-            going = λ cs a H. more cs (g.going cs a H) H p;
-          }
+      module _ (c : Kept) (told : track'.pen.kept ≡ c) where
+        pub goes_on : (m : ℕ) → c ≡ kept.Cells m → ReachAll (stroke_of t o k) → Tracking ws' track' next (n + 1)
+        goes_on m p r =
+            let b = next-in s at k next e in
+            record {
+              same = d.drew.added.same ∙ g.same;
+              sound = still_sound g.sound r d;
+              few = omega (arith, g.few, b.past);
+              inside = b.inside;
+              going = λ cs a H. more cs (g.going cs a H) H m (told ∙ p);
+            }
 
-      pub stops : cap < track'.pen.kept → Traced f cap ws₀ ws' t o s (Full n)
-      stops p = record {
-        within = omega (arith, g.few, g.inside);
-        same = d.drew.added.same ∙ g.same;
-        stored = λ cs a H. full-here cs (g.going cs a H) H p;
-      }
+        pub stops : c ≡ kept.Full → Traced f cap ws₀ ws' t o s (Full n)
+        stops p = record {
+          within = omega (arith, g.few, g.inside);
+          same = d.drew.added.same ∙ g.same;
+          stored = λ cs a H. full-here cs (g.going cs a H) H (told ∙ p);
+        }
 
     -- ---- the end
-    module _ (ws' : List ℕ) (r : ℕ) (a : Added f cap ws ws' track.pen.kept r (end_of f (stand_of track.pen) track.at track.start)) where
+    module _ (ws' : List ℕ) (r : Kept) (w : store.Within cap r) (a : Added f cap ws ws' track.pen.kept r (end_of f (stand_of track.pen) track.at track.start)) where
       abbrev last : List Deposit
       last = seen f (end_of f (stand_of track.pen) track.at track.start)
 
@@ -206,32 +208,32 @@ module _ (f : Frame) (cap : ℕ) (ws₀ : List ℕ) (t : Transform) (o : Point) 
         unfolding strokes_of stored_from
         left-last = rw none
 
-        by_answer : (k : store.Kept) → store.Stored ws' (rows f) (width f) cap (Stored h.done ++ last) k
+        by_answer : (k : Kept) → Holding f cap ws' k (Stored h.done ++ last)
             → Filled ws' (rows f) (width f) cap (deposits_of f (strokes_of t o cs)) (stored_by f (strokes_of t o cs)) (pool_at k n)
-        by_answer (store.Cells m) H = rw stored-all H
-        by_answer store.Full over =
+        by_answer (kept.Cells m) H = rw stored-all H
+        by_answer kept.Full over =
             let e : fitting cap (Stored h.done) (Left track h.rest) ≡ 0 = rw left-last (none-fits cap (Stored h.done) last [] over) in
             (rw stored-all over, omega (arith, h.fits))
 
-        ended : Holding f cap ws₀ 0 []
-            → Filled ws' (rows f) (width f) cap (deposits_of f (strokes_of t o cs)) (stored_by f (strokes_of t o cs)) (pool_at (store.kept_of cap r) n)
+        ended : Holding f cap ws₀ (kept.Cells 0) []
+            → Filled ws' (rows f) (width f) cap (deposits_of f (strokes_of t o cs)) (stored_by f (strokes_of t o cs)) (pool_at r n)
         unfolding lifted
-        ended H = by_answer (store.kept_of cap r) (a.adds (Stored h.done) (h.drew.added.adds [] H))
+        ended H = by_answer r (a.adds (Stored h.done) (h.drew.added.adds [] H))
 
-      told-within : (k : store.Kept) → store.Within cap k → Within cap (length s) (pool_at k n)
-      told-within (store.Cells m) w = w
-      told-within store.Full w = omega (arith, g.few, g.inside)
+      told-within : (k : Kept) → store.Within cap k → Within cap (length s) (pool_at k n)
+      told-within (kept.Cells m) w = w
+      told-within kept.Full w = omega (arith, g.few, g.inside)
 
-      pub traced : step_at s at ≡ step.End → Traced f cap ws₀ ws' t o s (pool_at (store.kept_of cap r) n)
+      pub traced : step_at s at ≡ step.End → Traced f cap ws₀ ws' t o s (pool_at r n)
       traced e = record {
-        within = told-within (store.kept_of cap r) (kept_within cap r);
+        within = told-within r w;
         same = a.same ∙ g.same;
         stored = λ cs l H. ended cs e (g.going cs l H) H;
       }
 
-      pub untraced : (why : Reason) → step_at s at ≡ step.Refused why → Traced f cap ws₀ ws' t o s (pool_at (store.kept_of cap r) n)
+      pub untraced : (why : Reason) → step_at s at ≡ step.Refused why → Traced f cap ws₀ ws' t o s (pool_at r n)
       untraced why e = record {
-        within = told-within (store.kept_of cap r) (kept_within cap r);
+        within = told-within r w;
         same = a.same ∙ g.same;
         stored = λ cs l H. let h = g.going cs l H in absurd (never-refused t o s at h.rest h.unread why e);
       }

@@ -4,6 +4,7 @@ use Rattle.std.specs.Prelude.{ℕ, ◌+◌, ◌-◌, ◌/◌, ◌≤◌, min, �
 use Rattle.geometry.specs.declared.Point.{Point}
 use Rattle.geometry.specs.declared.Transform.{Transform}
 use Rattle.command.specs.declared.Command.{Command}
+use Rattle.storage.specs.declared.Kept.TheVariants.{Cells}
 use Rattle.storage.specs.Answers.{most_rows}
 use Rattle.pen.specs.declared.Frame.{Frame}
 use Rattle.pen.specs.Drawing.{rows, width, Holding}
@@ -32,7 +33,7 @@ pub record Fits (width first end words : ℕ) : Type 0 where
 pub record Traced (f : Frame) (cap : ℕ) (ws ws' : List ℕ) (t : Transform) (o : Point) (s : List ℕ) (r : Pool) : Type 0 where
   pub within : Within cap (length s) r
   pub same : length ws' ≡ length ws
-  pub stored : (cs : List Command) → read_list t o s ≡ path cs → Holding f cap ws 0 []
+  pub stored : (cs : List Command) → read_list t o s ≡ path cs → Holding f cap ws (Cells 0) []
       → Filled ws' (rows f) (width f) cap (deposits_of f (strokes_of t o cs)) (stored_by f (strokes_of t o cs)) r
 
 -- the same of words that held anything, for a band

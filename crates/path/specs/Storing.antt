@@ -1,7 +1,8 @@
 -- docs/RULES.md, "When a label is turned away": the record that 13 names. What each record stores, and how many fit.
 use Rattle.std.specs.Prelude.{ℕ, ◌+◌, ◌≤◌, ◌<◌, ◌≡◌, cond, List, [], ◌∷◌, ◌++◌, ltb}
 use Rattle.fixed.specs.declared.FixedPoint.{FixedPoint}
-use Rattle.storage.specs.Answers as kept
+use Rattle.storage.specs.declared.Kept.{Kept}
+use Rattle.storage.specs.declared.Kept.TheVariants as kept
 use Rattle.storage.specs.Deposits.{Deposit, distinct}
 use Rattle.storage.specs.Cells.{Holds}
 use Rattle.pen.specs.declared.Frame.{Frame}
@@ -31,7 +32,7 @@ fitting cap log [] = 0
 fitting cap log (ds ∷ each) = cond (ltb cap (distinct (log ++ ds))) 0 (1 + fitting cap (log ++ ds) each)
 
 -- the pool as the record of index n leaves it
-abbrev pub pool_at : kept.Kept → ℕ → Pool
+abbrev pub pool_at : Kept → ℕ → Pool
 pool_at (kept.Cells count) n = Cells count
 pool_at kept.Full n = Full n
 

@@ -1,7 +1,7 @@
 // A path list as a whole: its records are judged front to back, and an accepted list is drawn stroke by stroke into the pool.
 // Also the refusals of the table in docs/RULES.md, which all public answers share.
 ghost use Rattle.std.specs.Prelude.{◌≡◌, [], ◌∷◌, ◌≤◌, ◌<◌, length};
-ghost use Rattle.storage.specs.Answers.{most_rows, kept_of};
+ghost use Rattle.storage.specs.Answers.{most_rows};
 ghost use Rattle.pen.specs.Drawing.{Ready};
 ghost use Rattle.line.specs.Range.{Reach};
 ghost use Rattle.raster.specs.Tracing.{ReachAll};
@@ -19,6 +19,7 @@ use geometry::{Point, Transform};
 use list::{Reason, Step};
 use pen::Frame;
 use raster::Stroke;
+use storage::Kept;
 
 // The longest list, in bytes.
 const MOST_BYTES: usize = 65536;
@@ -244,21 +245,17 @@ pub fn judge(list: &[u8], t: Transform, o: Point) -> Judged
     }
 }
 
-// A point in fixed numbers. The drawing asks for two numbers and no spot, since numbers stay in registers. The list was judged before,
-// so that every point has both and the corner is never drawn.
+// A point in fixed numbers.
 fn fixed_at(t: Transform, o: Point, p: Point) -> FixedPoint
     ensures { (result ≡ fixed_at t o p) × Reach result }
 {
-    let q = t.transform_point(p).plus(o);
-    let x = fixed::number(q.x);
-    let y = fixed::number(q.y);
-    if x == 0 || y == 0 {
-        return FixedPoint {
+    match spot_at(t, o, p) {
+        Spot::At { point, cuts: _ } => point,
+        Spot::Outside => FixedPoint {
             x: fixed::BIAS,
             y: fixed::BIAS,
-        };
+        },
     }
-    FixedPoint { x, y }
 }
 
 // A command in fixed numbers.
@@ -285,13 +282,13 @@ pub enum Pool {
 }
 
 // The pool as the record of index n leaves it.
-fn pool_at(cap: usize, kept: usize, n: usize) -> Pool
-    ensures { result ≡ pool_at (kept_of cap kept) n }
+fn pool_at(kept: Kept, n: usize) -> Pool
+    ensures { result ≡ pool_at kept n }
 {
-    if cap < kept {
-        return Pool::Full(n);
+    match kept {
+        Kept::Cells(count) => Pool::Cells(count),
+        Kept::Full => Pool::Full(n),
     }
-    Pool::Cells(kept)
 }
 
 // Draws the list's strokes into a pool that holds nothing yet, up to a record that is too much for it.
@@ -305,19 +302,24 @@ fn trace_list(ws: &mut [u32], f: Frame, cap: usize, list: &[u8], t: Transform, o
     loop {
         match list::step_at(list, at) {
             Step::End => {
-                return pool_at(cap, raster::finish(ws, f, cap, track), n);
+                return pool_at(raster::finish(ws, f, cap, track), n);
             }
             Step::Refused(_) => {
-                return pool_at(cap, raster::finish(ws, f, cap, track), n);
+                return pool_at(raster::finish(ws, f, cap, track), n);
             }
             Step::Command(k, next) => {
                 track = raster::trace(ws, f, cap, track, stroke_of(t, o, k));
                 let pen = track.pen;
-                if cap < pen.kept {
-                    return Pool::Full(n);
+                let kept = pen.kept;
+                match kept {
+                    Kept::Full => {
+                        return Pool::Full(n);
+                    }
+                    Kept::Cells(_) => {
+                        n += 1;
+                        at = next;
+                    }
                 }
-                n += 1;
-                at = next;
             }
         }
     }

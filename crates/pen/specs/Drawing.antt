@@ -1,7 +1,9 @@
 -- What the functions of the pen promise: from words that hold a log, the marks' deposits are added to it.
 use Rattle.std.specs.Prelude.{◌≡◌, ℕ, ◌+◌, ◌-◌, ◌*◌, ◌≤◌, Bool, true, false, List, ◌++◌, length}
+use Rattle.storage.specs.declared.Kept.{Kept}
+use Rattle.storage.specs.declared.Kept.TheVariants.{Cells}
 use Rattle.storage.specs.Deposits.{Deposit}
-use Rattle.storage.specs.Answers.{most_rows, kept_of, Stored}
+use Rattle.storage.specs.Answers.{most_rows, Within, Stored}
 use Rattle.pen.specs.declared.Frame.{Frame}
 use Rattle.pen.specs.declared.Pen.{Pen}
 use Rattle.pen.specs.Marks.{Mark, Stand, nowhere, at, after, Pair, left, seen}
@@ -22,14 +24,14 @@ pub record Ready (f : Frame) (cap : ℕ) (ws : List ℕ) : Type 0 where
   pub small : cap ≤ 16384
   pub fits : f.end + 4 * cap ≤ length ws + f.first
 
--- the words hold the log, and the pool has n cells; or n is more than it can have, and so has the log more places
-abbrev pub Holding : Frame → ℕ → List ℕ → ℕ → List Deposit → Type 0
-Holding f cap ws n log = Stored ws (rows f) (width f) cap log (kept_of cap n)
+-- the words hold the log, or the log has more places than the pool
+abbrev pub Holding : Frame → ℕ → List ℕ → Kept → List Deposit → Type 0
+Holding f cap ws kept log = Stored ws (rows f) (width f) cap log kept
 
 -- what is seen of the pairs is added to the log
-pub record Added (f : Frame) (cap : ℕ) (ws ws' : List ℕ) (n n' : ℕ) (ds : List Pair) : Type 0 where
+pub record Added (f : Frame) (cap : ℕ) (ws ws' : List ℕ) (k k' : Kept) (ds : List Pair) : Type 0 where
   pub same : length ws' ≡ length ws
-  pub adds : (log : List Deposit) → Holding f cap ws n log → Holding f cap ws' n' (log ++ seen f ds)
+  pub adds : (log : List Deposit) → Holding f cap ws k log → Holding f cap ws' k' (log ++ seen f ds)
 
 -- where the pen stands
 abbrev pub stood : Bool → ℕ → ℕ → ℕ → ℕ → Stand
@@ -41,8 +43,9 @@ stand_of p = stood p.down p.col p.row p.cover p.area
 
 -- the pen has made the marks
 pub record Drew (f : Frame) (cap : ℕ) (ws ws' : List ℕ) (p p' : Pen) (ms : List Mark) : Type 0 where
+  pub within : Within cap p'.kept
   pub stands : stand_of p' ≡ after (stand_of p) ms
   pub added : Added f cap ws ws' p.kept p'.kept (left (stand_of p) ms)
 
 unfoldable pub lifted : Pen
-lifted = record { down = false; col = 0; row = 0; cover = 0; area = 0; kept = 0 }
+lifted = record { down = false; col = 0; row = 0; cover = 0; area = 0; kept = Cells 0 }

@@ -1,8 +1,11 @@
 // The pen: the cell that it is in, the pair that it has gathered there, and how the pool stands. Entering a cell stores the pair
 // of the cell that it leaves. The pen goes in and comes back by value, beside the lent words.
 ghost use Rattle.std.specs.Prelude.{◌≡◌, ◌+◌, ◌-◌, ◌<◌, max, [], ◌∷◌};
+ghost use Rattle.storage.specs.Answers.{Within};
 ghost use Rattle.pen.specs.Marks.{enter, gave, pair_of, leaving, last_of};
 ghost use Rattle.pen.specs.Drawing.{Ready, Added, Drew, lifted, stand_of};
+
+use storage::Kept;
 
 // The drawing's edges, as cells: columns below wide, rows from first up to end. A cell z is held as z + 8192.
 #[derive(Drop)]
@@ -20,8 +23,7 @@ pub struct Pen {
     pub row: u64,
     pub cover: u32,
     pub area: u32,
-    // How many cells the pool has, or one more than it can have: then it has no room.
-    pub kept: usize,
+    pub kept: Kept,
 }
 
 // A pen in no cell, over an empty pool.
@@ -34,7 +36,7 @@ pub fn lift() -> Pen
         row: 0,
         cover: 0,
         area: 0,
-        kept: 0,
+        kept: Kept::Cells(0),
     }
 }
 
@@ -53,36 +55,42 @@ fn set(
     ws: &mut [u32],
     f: Frame,
     cap: usize,
-    kept: usize,
+    kept: Kept,
     col: u64,
     row: u64,
     cover: u32,
     area: u32,
-) -> usize
-    requires { Ready f cap ws.old }
-    ensures { Added f cap ws.old ws.new kept result (pair_of col row cover area ∷ []) }
+) -> Kept
+    requires fact_1 { Ready f cap ws.old }
+    requires fact_2 { Within cap kept }
+    ensures fact_1 { Within cap result }
+    ensures fact_2 { Added f cap ws.old ws.new kept result (pair_of col row cover area ∷ []) }
 {
-    if cap < kept {
-        return kept;
+    match kept {
+        Kept::Full => Kept::Full,
+        Kept::Cells(n) => {
+            if f.wide <= col {
+                return Kept::Cells(n);
+            }
+            if row < f.first {
+                return Kept::Cells(n);
+            }
+            if f.end <= row {
+                return Kept::Cells(n);
+            }
+            let rows = (f.end - f.first) as usize;
+            let line = (row - f.first) as usize;
+            storage::store(ws, rows, cap, n, line, column_of(col), cover, area)
+        }
     }
-    if f.wide <= col {
-        return kept;
-    }
-    if row < f.first {
-        return kept;
-    }
-    if f.end <= row {
-        return kept;
-    }
-    let rows = (f.end - f.first) as usize;
-    let line = (row - f.first) as usize;
-    storage::store(ws, rows, cap, kept, line, column_of(col), cover, area)
 }
 
 // The pair of the cell that the pen leaves is stored, unless both parts are zero.
-fn leave(ws: &mut [u32], f: Frame, cap: usize, pen: Pen) -> usize
-    requires { Ready f cap ws.old }
-    ensures { Added f cap ws.old ws.new pen.kept result (leaving (stand_of pen)) }
+fn leave(ws: &mut [u32], f: Frame, cap: usize, pen: Pen) -> Kept
+    requires fact_1 { Ready f cap ws.old }
+    requires fact_2 { Within cap pen.kept }
+    ensures fact_1 { Within cap result }
+    ensures fact_2 { Added f cap ws.old ws.new pen.kept result (leaving (stand_of pen)) }
 {
     let kept = pen.kept;
     if !pen.down {
@@ -98,7 +106,8 @@ fn leave(ws: &mut [u32], f: Frame, cap: usize, pen: Pen) -> usize
 
 // Enters a cell, also the one that the pen is in: the pair that it leaves is stored, unless both parts are zero.
 pub fn set_cell(ws: &mut [u32], f: Frame, cap: usize, pen: Pen, col: u64, row: u64) -> Pen
-    requires { Ready f cap ws.old }
+    requires fact_1 { Ready f cap ws.old }
+    requires fact_2 { Within cap pen.kept }
     ensures { Drew f cap ws.old ws.new pen result (enter col row ∷ []) }
 {
     let kept = leave(ws, f, cap, pen);
@@ -128,9 +137,11 @@ pub fn add(pen: Pen, cover: u32, area: u32) -> Pen
 }
 
 // The end: the cell that the pen is in is stored, where it is inside, also with both parts zero.
-pub fn finish(ws: &mut [u32], f: Frame, cap: usize, pen: Pen) -> usize
-    requires { Ready f cap ws.old }
-    ensures { Added f cap ws.old ws.new pen.kept result (last_of (stand_of pen)) }
+pub fn finish(ws: &mut [u32], f: Frame, cap: usize, pen: Pen) -> Kept
+    requires fact_1 { Ready f cap ws.old }
+    requires fact_2 { Within cap pen.kept }
+    ensures fact_1 { Within cap result }
+    ensures fact_2 { Added f cap ws.old ws.new pen.kept result (last_of (stand_of pen)) }
 {
     let kept = pen.kept;
     if !pen.down {

@@ -7,8 +7,10 @@ use native.Mathlib.Omega.{arith}
 use lib.Dec.{T, leb, leb→le}
 use lib.ListN.{length, drop, replicate, length-append, length-drop, length-replicate}
 use borrow.Author.Tests.{lt-leb, le-leb}
+use Rattle.storage.specs.declared.Kept.{Kept}
+use Rattle.storage.specs.declared.Kept.TheVariants.{Cells, Full}
 use Rattle.storage.specs.Deposits.{Deposit, distinct}
-use Rattle.storage.specs.Answers.{Kept, Cells, Full, most_rows, most_cells, kept_of, Deposited}
+use Rattle.storage.specs.Answers.{most_rows, most_cells, kept_of, Deposited}
 use Rattle.storage.proofs.Pools.{whole}
 use Rattle.path.specs.Pouring.{pool_of}
 use Rattle.probe.specs.Probes.{last_column, deposits_of, Run, unpooled, pooled, run_of, no_cells, cells_of, Left, Ran}

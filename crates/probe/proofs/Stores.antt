@@ -6,21 +6,22 @@ use native.Mathlib.Omega.{arith}
 use lib.ListN.{length, get_or, drop, length-drop}
 use lib.Seq.{drop-cons}
 use borrow.Author.Tests.{lt-ltb, le-ltb}
+use Rattle.storage.specs.declared.Kept.{Kept}
+use Rattle.storage.specs.declared.Kept.TheVariants.{Cells, Full}
 use Rattle.storage.specs.Deposits.{per_row, Deposit}
-use Rattle.storage.specs.Answers.{Kept, Cells, Full, kept_of, Room, Storing, Deposited}
-use Rattle.storage.proofs.Stores.{kept_cells, kept_full}
-use Rattle.storage.proofs.Pools.{room_kept, deposited-none, deposited-one, deposited-as, deposited-then, deposited-full}
+use Rattle.storage.specs.Answers.{Room, Storing, Deposited}
+use Rattle.storage.proofs.Pools.{room_kept, deposited-none, deposited-one, deposited-then, deposited-full}
 use Rattle.probe.specs.Probes.{last_column, deposit_of, deposits_of}
 
 -- ---- one pair
 
 module _ {rows row : ℕ} (column cover area : ℕ) {ws : List ℕ} {cap count : ℕ} where
   -- a row or a column too far stores nothing
-  pub below : Room ws rows cap count → rows ≤ row → Deposited ws ws rows last_column cap count (deposit_of rows row column cover area) (kept_of cap count)
-  below R h = deposited-as (sym (kept_cells cap count R.used)) (simp (le-ltb _ _ h) (deposited-none R.used))
+  pub below : Room ws rows cap count → rows ≤ row → Deposited ws ws rows last_column cap count (deposit_of rows row column cover area) (Cells count)
+  below R h = simp (le-ltb _ _ h) (deposited-none R.used)
 
-  pub beside : Room ws rows cap count → row < rows → per_row ≤ column → Deposited ws ws rows last_column cap count (deposit_of rows row column cover area) (kept_of cap count)
-  beside R h g = deposited-as (sym (kept_cells cap count R.used)) (simp (lt-ltb _ _ h, le-ltb _ _ g) (deposited-none R.used))
+  pub beside : Room ws rows cap count → row < rows → per_row ≤ column → Deposited ws ws rows last_column cap count (deposit_of rows row column cover area) (Cells count)
+  beside R h g = simp (lt-ltb _ _ h, le-ltb _ _ g) (deposited-none R.used)
 
   pub inside : {ws' : List ℕ} {r : Kept} → row < rows → column < per_row → Storing ws ws' rows cap count row column cover area r
       → Deposited ws ws' rows last_column cap count (deposit_of rows row column cover area) r
@@ -71,26 +72,15 @@ module _ (rows cap : ℕ) (pairs ws₀ : List ℕ) where
     split : at + 3 < length pairs → (g.done ++ depositAt rows pairs at) ++ deposits_of rows (drop (at + 4) pairs) ≡ deposits_of rows pairs
     split h = append_assoc g.done (depositAt rows pairs at) (deposits_of rows (drop (at + 4) pairs)) ∙ ap (λ (z : List Deposit). g.done ++ z) (sym (four rows pairs at h)) ∙ g.all
 
-    module _ {ws' : List ℕ} (n : ℕ) (h : at + 3 < length pairs) (d : Deposited ws ws' rows last_column cap count (depositAt rows pairs at) (kept_of cap n)) where
-      pub goes_on : n ≤ cap → Going ws' n (at + 4)
-      goes_on e =
-          record {
-            within = omega arith;
-            done = g.done ++ depositAt rows pairs at;
-            all = split h;
-            held = deposited-as (kept_cells cap n e) (deposited-then g.held d);
-          }
+    module _ {ws' : List ℕ} {r : Kept} (h : at + 3 < length pairs) (d : Deposited ws ws' rows last_column cap count (depositAt rows pairs at) r) where
+      pub goes_on : (n : ℕ) → r ≡ Cells n → Going ws' n (at + 4)
+      goes_on n e = record { within = omega arith; done = g.done ++ depositAt rows pairs at; all = split h; held = rw e at (deposited-then g.held d) }
 
-      pub full : cap < n → Deposited ws₀ ws' rows last_column cap 0 (deposits_of rows pairs) (kept_of cap n)
-      full e =
-          deposited-as (sym (kept_full cap n e))
-          (rw (← split h) (deposited-full (deposits_of rows (drop (at + 4) pairs)) (deposited-as (kept_full cap n e) (deposited-then g.held d))))
+      pub full : r ≡ Full → Deposited ws₀ ws' rows last_column cap 0 (deposits_of rows pairs) Full
+      full e = rw (← split h) (deposited-full (deposits_of rows (drop (at + 4) pairs)) (rw e at (deposited-then g.held d)))
 
-    stored-cells : length pairs ≤ at + 3 → Deposited ws₀ ws rows last_column cap 0 (deposits_of rows pairs) (Cells count)
-    stored-cells h =
+    pub stored : length pairs ≤ at + 3 → Deposited ws₀ ws rows last_column cap 0 (deposits_of rows pairs) (Cells count)
+    stored h =
         let none : deposits_of rows (drop at pairs) ≡ [] = short rows (drop at pairs) (simp length-drop (omega (arith, g.within))) in
         let all : g.done ≡ deposits_of rows pairs = rw append-nil at (rw none at g.all) in
         rw (← all) g.held
-
-    pub stored : length pairs ≤ at + 3 → Deposited ws₀ ws rows last_column cap 0 (deposits_of rows pairs) (kept_of cap count)
-    stored h = deposited-as (sym (kept_cells cap count g.held.within)) (stored-cells h)

@@ -7,8 +7,10 @@ use Rattle.geometry.specs.declared.Placed.{Placed}
 use Rattle.geometry.specs.declared.Placed.TheVariants.{At, Outside}
 use Rattle.geometry.specs.Affine.{point_of}
 use Rattle.geometry.specs.Box.{bounds_of}
+use Rattle.storage.specs.declared.Kept.{Kept}
+use Rattle.storage.specs.declared.Kept.TheVariants.{Cells, Full}
 use Rattle.storage.specs.Deposits.{per_row, Deposit, given, distinct}
-use Rattle.storage.specs.Answers.{Kept, Cells, Full, most_rows, kept_of, Stored}
+use Rattle.storage.specs.Answers.{most_rows, kept_of, Stored}
 use Rattle.path.specs.Pouring.{pool_of}
 use Rattle.label.specs.declared.Label.{Label}
 use Rattle.label.specs.declared.Answer.{Answer}

@@ -2,13 +2,14 @@
 // pairs stored with no drawing.
 ghost use Rattle.std.specs.Prelude.{◌≡◌};
 ghost use Rattle.geometry.specs.Placing.{placed_of};
-ghost use Rattle.storage.specs.Answers.{Room, Deposited, kept_of};
+ghost use Rattle.storage.specs.Answers.{Room, Deposited};
 ghost use Rattle.paper.specs.Placing.{box_of};
 ghost use Rattle.mosszephyr.specs.Face.{point_out_of_c, origin_of, label_of};
 ghost use Rattle.probe.specs.Probes.{box_in_c, box_out_of_c, placed_in_c, pairs_of, Celled, last_column, deposit_of, deposits_of, Ran};
 
 use geometry::{Bounds, Placed, Placement, Point};
 use mosszephyr::{MzDrawn, MzLabel, MzPoint, label_of, mz_point, origin_of};
+use storage::Kept;
 
 // The most rows that a pool has.
 const MOST_ROWS: usize = 4096;
@@ -116,23 +117,23 @@ fn store_pair(
     column: usize,
     cover: u32,
     area: u32,
-) -> usize
+) -> Kept
     requires { Room words.old rows cap count }
-    ensures { Deposited words.old words.new rows last_column cap count (deposit_of rows row column cover area) (kept_of cap result) }
+    ensures { Deposited words.old words.new rows last_column cap count (deposit_of rows row column cover area) result }
 {
     if rows <= row {
-        return count;
+        return Kept::Cells(count);
     }
     if storage::PER_ROW <= column {
-        return count;
+        return Kept::Cells(count);
     }
     storage::store(words, rows, cap, count, row, column, cover, area)
 }
 
 // Stores the pairs in a pool with no cells, until one does not fit.
-fn store_pairs(pairs: &[u32], words: &mut [u32], rows: usize, cap: usize) -> usize
+fn store_pairs(pairs: &[u32], words: &mut [u32], rows: usize, cap: usize) -> Kept
     requires { Room words.old rows cap 0 }
-    ensures { Deposited words.old words.new rows last_column cap 0 (deposits_of rows pairs.now) (kept_of cap result) }
+    ensures { Deposited words.old words.new rows last_column cap 0 (deposits_of rows pairs.now) result }
 {
     let mut count: usize = 0;
     let mut at: usize = 0;
@@ -141,14 +142,17 @@ fn store_pairs(pairs: &[u32], words: &mut [u32], rows: usize, cap: usize) -> usi
         let column = storage::word(pairs, at + 1);
         let cover = pairs[at + 2];
         let area = pairs[at + 3];
-        let n = store_pair(words, rows, cap, count, row, column, cover, area);
-        if cap < n {
-            return n;
+        match store_pair(words, rows, cap, count, row, column, cover, area) {
+            Kept::Cells(n) => {
+                count = n;
+                at += 4;
+            }
+            Kept::Full => {
+                return Kept::Full;
+            }
         }
-        count = n;
-        at += 4;
     }
-    count
+    Kept::Cells(count)
 }
 
 // Stores pairs into a pool of so many rows, one behind the other, and leaves the cells in the words. Four numbers a pair: row, column counted
@@ -166,10 +170,11 @@ pub extern "C" fn mz_probe_stores(pairs: &[u32], rows: usize, words: &mut [u32])
     }
     let cap = path::pool_of(words.len(), rows);
     storage::clear(words, rows);
-    let n = store_pairs(pairs, words, rows, cap);
-    if cap < n {
-        storage::wipe(words);
-        return NO_CELLS;
+    match store_pairs(pairs, words, rows, cap) {
+        Kept::Cells(n) => n as u64,
+        Kept::Full => {
+            storage::wipe(words);
+            NO_CELLS
+        }
     }
-    n as u64
 }

@@ -3,6 +3,7 @@ use Prim.Native.Nat.{ℕ, ◌+◌, ◌-◌, ◌/◌, ◌%◌, ◌^◌}
 use mathlib.Core.Path.{◌≡◌, refl, sym, ap, ◌∙◌, subst}
 use mathlib.Core.List.{List, [], ◌++◌, append_assoc, append-nil}
 use native.Mathlib.Omega.{arith}
+use Rattle.storage.specs.Answers.{Within}
 use Rattle.fixed.specs.declared.FixedPoint.{FixedPoint}
 use Rattle.fixed.specs.Split.{point_of}
 use Rattle.pen.specs.declared.Frame.{Frame}
@@ -30,16 +31,16 @@ pub record Going (f : Frame) (cap : ℕ) (all : List Mark) (ws₀ : List ℕ) (p
   pub drew : Drew f cap ws₀ ws pen₀ pen done
   pub same : done ++ along f from left ≡ all
 
-pub going : (f : Frame) (cap : ℕ) (ws : List ℕ) (pen : Pen) (a c b : FixedPoint) (draw : ℕ) → Reach a → Reach c → Reach b
+pub going : (f : Frame) (cap : ℕ) (ws : List ℕ) (pen : Pen) (a c b : FixedPoint) (draw : ℕ) → Within cap pen.kept → Reach a → Reach c → Reach b
     → draw ≡ 2 ^ doublings 16 (bend a c b) → Going f cap (all_marks f a (begin a c b)) ws pen ws (begin a c b) 0 draw draw a pen
 unfolding quad_points
-going f cap ws pen a c b draw p q r e =
+going f cap ws pen a c b draw w p q r e =
     record {
       left = quad_points a c b;
       stack = begun a c b (doublings 16 (bend a c b)) draw p q r (eight a c b p q r 16) e;
       from_in = p;
       done = [];
-      drew = drew-none f cap;
+      drew = drew-none f cap w;
       same = refl;
     }
 

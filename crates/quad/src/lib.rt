@@ -1,10 +1,12 @@
 // Quads, from zeno's raster.rs. A quad is halved over a stack of 33 points, and a line goes to the end of each part: the
 // pen makes the marks of those lines. The top of the stack is the part that comes next, its end first.
-ghost use Rattle.std.specs.Prelude.{◌≡◌, ◌^◌};
+ghost use Rattle.std.specs.Prelude.{◌≡◌, ◌^◌, ◌≤◌};
 ghost use Rattle.fixed.specs.Fixed.{cell, apart};
+ghost use Rattle.storage.specs.Answers.{Within};
 ghost use Rattle.pen.specs.Drawing.{Ready, Drew};
 ghost use Rattle.line.specs.Range.{Reach};
 ghost use Rattle.quad.specs.Quads.{bend, doublings, all_past, all_ahead, quad_marks};
+ghost use Rattle.quad.specs.Stack.{halved};
 
 use fixed::FixedPoint;
 use pen::{Frame, Pen};
@@ -60,8 +62,21 @@ fn all_ahead(f: Frame, a: FixedPoint, c: FixedPoint, b: FixedPoint) -> bool
     row_of(a) < f.first && (row_of(c) < f.first && row_of(b) < f.first)
 }
 
-// A quad from a to b: `draw` lines are left, and the part at the top is halved as often as `rest` is even: its end half stays where it lies, its start half
-// comes above it.
+// The part at `top` is halved: its end half stays there, its start half comes above it.
+fn halve(arc: [FixedPoint; 33], top: usize) -> [FixedPoint; 33]
+    requires { top ≤ 28 }
+    ensures { result ≡ halved arc top }
+{
+    let five = fixed::split_quad([arc[top], arc[top + 1], arc[top + 2]]);
+    let mut parts = arc;
+    parts[top + 1] = five[1];
+    parts[top + 2] = five[2];
+    parts[top + 3] = five[3];
+    parts[top + 4] = five[4];
+    parts
+}
+
+// A quad from a to b: `draw` lines are left, and the part at the top is halved as often as `rest` is even.
 pub fn quad_to(
     ws: &mut [u32],
     f: Frame,
@@ -72,9 +87,10 @@ pub fn quad_to(
     b: FixedPoint,
 ) -> Pen
     requires fact_1 { Ready f cap ws.old }
-    requires fact_2 { Reach a }
-    requires fact_3 { Reach c }
-    requires fact_4 { Reach b }
+    requires fact_2 { Within cap pen.kept }
+    requires fact_3 { Reach a }
+    requires fact_4 { Reach c }
+    requires fact_5 { Reach b }
     ensures { Drew f cap ws.old ws.new pen result (quad_marks f a c b) }
 {
     if all_past(f, a, c, b) || all_ahead(f, a, c, b) {
@@ -91,11 +107,7 @@ pub fn quad_to(
     let mut drawn = pen;
     loop {
         if rest % 2 == 0 {
-            let five = fixed::split_quad([arc[top], arc[top + 1], arc[top + 2]]);
-            arc[top + 1] = five[1];
-            arc[top + 2] = five[2];
-            arc[top + 3] = five[3];
-            arc[top + 4] = five[4];
+            arc = halve(arc, top);
             top += 2;
             rest /= 2;
         } else {

@@ -86,9 +86,10 @@ reach_start s (Quad c b) h g = h
 reach_start s (Cubic c d b) h g = h
 reach_start s Close h g = h
 
-pub still_sound : {f : Frame} {cap : ℕ} {ws ws' : List ℕ} {t t' : Track} {k : Stroke} → Sound t → ReachAll k → Stroked f cap ws ws' t k t' → Sound t'
+pub still_sound : {f : Frame} {cap : ℕ} {ws ws' : List ℕ} {t t' : Track} {k : Stroke} → Sound cap t → ReachAll k → Stroked f cap ws ws' t k t' → Sound cap t'
 still_sound {t = t} {k = k} h g d =
     record {
+      within = d.drew.within;
       near = rw d.goes (reach_point t.start k h.begun g);
       begun = rw d.starts (reach_start t.start k h.begun g);
     }

@@ -1,5 +1,6 @@
 -- What the functions of the track ask and promise.
 use Rattle.std.specs.Prelude.{ℕ, ◌≡◌, List}
+use Rattle.storage.specs.Answers.{Within}
 use Rattle.pen.specs.declared.Frame.{Frame}
 use Rattle.pen.specs.Drawing.{Drew}
 use Rattle.line.specs.Range.{Reach}
@@ -16,7 +17,8 @@ ReachAll (Quad c b) = Reach c × Reach b
 ReachAll (Cubic c d b) = Reach c × Reach d × Reach b
 ReachAll Close = Unit {0}
 
-pub record Sound (t : Track) : Type 0 where
+pub record Sound (cap : ℕ) (t : Track) : Type 0 where
+  pub within : Within cap t.pen.kept
   pub near : Reach t.at
   pub begun : Reach t.start
 

@@ -1,6 +1,7 @@
 // A path's strokes in fixed numbers, drawn one by one: the pen point, the subpath's start and the pen go in by value and come
 // back, beside the lent words. zeno's `Rasterizer` without its storage and its sweep.
 ghost use Rattle.std.specs.Prelude.{◌≡◌};
+ghost use Rattle.storage.specs.Answers.{Within};
 ghost use Rattle.pen.specs.Drawing.{Ready, Added, Drew, stand_of};
 ghost use Rattle.line.specs.Range.{Reach};
 ghost use Rattle.raster.specs.Path.{begun, move_marks, end_of};
@@ -8,6 +9,7 @@ ghost use Rattle.raster.specs.Tracing.{ReachAll, Sound, Stroked};
 
 use fixed::FixedPoint;
 use pen::{Frame, Pen};
+use storage::Kept;
 
 // A command in fixed numbers.
 #[derive(Drop)]
@@ -45,7 +47,7 @@ pub fn begin() -> Track
 // MoveTo: the open subpath is closed, and the pen enters the new point's cell.
 fn move_to(ws: &mut [u32], f: Frame, cap: usize, t: Track, b: FixedPoint) -> Pen
     requires fact_1 { Ready f cap ws.old }
-    requires fact_2 { Sound t }
+    requires fact_2 { Sound cap t }
     ensures { Drew f cap ws.old ws.new t.pen result (move_marks f t.at t.start b) }
 {
     let closed = line::line_to(ws, f, cap, t.pen, t.at, t.start);
@@ -62,7 +64,7 @@ fn move_to(ws: &mut [u32], f: Frame, cap: usize, t: Track, b: FixedPoint) -> Pen
 // Draws one stroke.
 pub fn trace(ws: &mut [u32], f: Frame, cap: usize, t: Track, s: Stroke) -> Track
     requires fact_1 { Ready f cap ws.old }
-    requires fact_2 { Sound t }
+    requires fact_2 { Sound cap t }
     requires fact_3 { ReachAll s }
     ensures { Stroked f cap ws.old ws.new t s result }
 {
@@ -101,10 +103,11 @@ pub fn trace(ws: &mut [u32], f: Frame, cap: usize, t: Track, s: Stroke) -> Track
 }
 
 // The end: the open subpath is closed, and the last cell is stored.
-pub fn finish(ws: &mut [u32], f: Frame, cap: usize, t: Track) -> usize
+pub fn finish(ws: &mut [u32], f: Frame, cap: usize, t: Track) -> Kept
     requires fact_1 { Ready f cap ws.old }
-    requires fact_2 { Sound t }
-    ensures { Added f cap ws.old ws.new t.pen.kept result (end_of f (stand_of t.pen) t.at t.start) }
+    requires fact_2 { Sound cap t }
+    ensures fact_1 { Within cap result }
+    ensures fact_2 { Added f cap ws.old ws.new t.pen.kept result (end_of f (stand_of t.pen) t.at t.start) }
 {
     let closed = line::line_to(ws, f, cap, t.pen, t.at, t.start);
     pen::finish(ws, f, cap, closed)

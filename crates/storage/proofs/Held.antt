@@ -1,18 +1,21 @@
--- The ways in which `store` changes the words, read cell by cell: a sum in two words and the hint, or a new cell and the links to it.
--- What each leaves is a pool with the deposit behind the others, by the laws of links and of links back.
-use Rattle.std.proofs.Common.{◌≡◌, ℕ, zero, suc, ◌+◌, ◌*◌, ◌/◌, ◌%◌, ◌^◌, ◌<◌, ◌≤◌, List, [], ◌∷◌, ◌++◌, length, get_or, set, sym, refl, ap, ◌∙◌, subst, add-zero, add-one, arith, length-set}
+-- The ways in which `store` changes the words, read cell by cell: a sum in two words, or a new cell and the links to it.
+-- What each leaves is a pool with the deposit behind the others, by the laws of links; a link back changes nothing that the words hold.
+use Rattle.std.proofs.Common.{◌≡◌, ℕ, zero, suc, ◌+◌, ◌*◌, ◌/◌, ◌%◌, ◌^◌, ◌<◌, ◌≤◌, List, [], ◌∷◌, ◌++◌, length, get_or, set, sym, refl, ap, ◌∙◌, subst, add-zero, add-one, arith, length-set, get_or-set_other, get_or-set_same, le-ltb}
 use mathlib.Core.Path.{fun_ext}
 use native.Mathlib.Decide.{ℕ_discrete}
 use Rattle.storage.specs.Deposits.{per_row, Deposit}
-use Rattle.storage.specs.Cells.{Named, low, high, Pool, Hint, half, next_in, back_in, links_of, place_at, word, link_word, link_at, back_at, Holds}
-use Rattle.storage.specs.Cells.{with_sum, with_pair, with_cell, with_next, with_back, with_followed, with_new}
-use Rattle.storage.proofs.Words.{next_links, back_links, link_word_lt}
+use Rattle.storage.specs.Cells.{Named, low, high, Pool, half, next_in, back_in, links_of, place_at, word, link_word, link_at, Holds}
+use Rattle.storage.specs.Cells.{with_sum, with_pair, with_cell, with_next, with_back, with_linked, with_new}
+use Rattle.storage.proofs.Words.{next_links, link_word_lt}
 use Rattle.storage.proofs.Linked.{again, anew}
-use Rattle.storage.proofs.Backs.{same-hint, same-before, new-hint, new-before}
-use Rattle.storage.proofs.Walk.{named_le}
-use Rattle.storage.proofs.Halves.{other, same, back-here, back-next, next_here, next-back, followed-length, followed-here, followed-next, followed_else}
 
 -- ---- reading what was written
+
+other : (l : List ℕ) (i j a : ℕ) → (j ≡ i → ⊥) → get_or (set l i a) j 0 ≡ get_or l j 0
+other l i j a h = get_or-set_other l i j a 0 h
+
+same : (l : List ℕ) (i a : ℕ) → i < length l → get_or (set l i a) i 0 ≡ a
+same l i a h = get_or-set_same l i a 0 h
 
 module _ (ws : List ℕ) (at cover area : ℕ) where
   pair-else : (i : ℕ) → (i ≡ at + 1 → ⊥) → (i ≡ at + 2 → ⊥) → get_or (with_pair ws at cover area) i 0 ≡ get_or ws i 0
@@ -70,7 +73,7 @@ module _ (rows row : ℕ) (hrow : row < rows) where
   link-part j p h zero = omega arith
   link-part j p h (suc k) = omega arith
 
--- ---- the hint
+-- ---- a link back
 
 -- a pool is what it reads as
 same_pool : {place place' cover cover' area area' : ℕ → ℕ} {link link' : ℕ → ℕ → ℕ} {rows width count : ℕ} {log : List Deposit}
@@ -78,31 +81,25 @@ same_pool : {place place' cover cover' area area' : ℕ → ℕ} {link link' : �
     → Pool place cover area link rows width count log → Pool place' cover' area' link' rows width count log
 same_pool p c a l P = rw (fun_ext p, fun_ext c, fun_ext a, fun_ext (λ r. fun_ext (l r))) P
 
--- moved to any cell of the row
-module _ (ws : List ℕ) (rows width count : ℕ) (log : List Deposit) (P : Holds ws rows width count log) (row n : ℕ) (hrow : row < rows)
-    (o : Named (place_at ws rows) count row n) (some : n ≡ 0 → ⊥) (fits : row < length ws) where
-  hint-part : (j p : ℕ) → get_or (with_back ws row n) (rows + 4 * j + p) 0 ≡ get_or ws (rows + 4 * j + p) 0
-  hint-part j p = other ws row (rows + 4 * j + p) _ (omega arith)
+-- whatever it is, the words hold what they held
+module _ (ws : List ℕ) (rows width count : ℕ) (log : List Deposit) (P : Holds ws rows width count log) (row last n : ℕ) (hrow : row < rows)
+    (fits : link_word rows row last < length ws) where
+  back-part : (j p : ℕ) → p < 3 → get_or (with_back ws (link_word rows row last) n) (rows + 4 * j + p) 0 ≡ get_or ws (rows + 4 * j + p) 0
+  back-part j p h = other ws (link_word rows row last) (rows + 4 * j + p) _ (link-part rows row hrow j p h last)
 
-  pub hint-place : (j : ℕ) → place_at (with_back ws row n) rows j ≡ place_at ws rows j
-  hint-place j = rw add-zero at (hint-part j 0)
-
-  hint-link : (r l : ℕ) → link_at (with_back ws row n) rows r l ≡ link_at ws rows r l
-  hint-link r l = back-next ws row n fits (link_word rows r l)
-
-  pub held-hint : Holds (with_back ws row n) rows width count log
-  held-hint = record {
-    pool = same_pool hint-place (λ j. hint-part j 1) (λ j. hint-part j 2) hint-link P.pool;
-    hinted = λ r hr. go r hr (ℕ_discrete r row);
-    backed = λ r k hr m.
-        same-before (fun_ext hint-place) (hint-link r) k (ap back_in (hint-part k 3)) (P.backed r k hr (rw (hint-place k) at m));
-  }
+  back-next : (i : ℕ) → next_in (get_or (with_back ws (link_word rows row last) n) i 0) ≡ next_in (get_or ws i 0)
+  back-next i = go (ℕ_discrete i (link_word rows row last))
     where
-      go : (r : ℕ) → r < rows → Dec (r ≡ row) → Hint (place_at (with_back ws row n) rows) (link_at (with_back ws row n) rows) (back_at (with_back ws row n) rows) count r
-      go r hr (yes e) =
-          let b : back_at (with_back ws row n) rows row 0 ≡ n = back-here ws row n fits in
-          rw e (record { named = rw (b, fun_ext hint-place) o; none = λ z. absurd (some (sym b ∙ z)) })
-      go r hr (no e) = same-hint (fun_ext hint-place) (hint-link r) (ap back_in (other ws row r _ e)) (P.hinted r hr)
+      go : Dec (i ≡ link_word rows row last) → next_in (get_or (with_back ws (link_word rows row last) n) i 0) ≡ next_in (get_or ws i 0)
+      go (yes e) = rw e (ap next_in (same ws (link_word rows row last) _ fits) ∙ next_links (next_in (get_or ws (link_word rows row last) 0)) n (omega arith))
+      go (no e) = ap next_in (other ws (link_word rows row last) i _ e)
+
+  pub held_back : Holds (with_back ws (link_word rows row last) n) rows width count log
+  held_back = record {
+    pool =
+        same_pool (λ j. rw add-zero at (back-part j 0 (omega arith))) (λ j. back-part j 1 (omega arith)) (λ j. back-part j 2 (omega arith))
+        (λ r l. back-next (link_word rows r l)) P.pool;
+  }
 
 -- ---- a deposit
 
@@ -112,7 +109,7 @@ module _ (ws : List ℕ) (rows width count : ℕ) (log : List Deposit) (P : Hold
   held-again d k hk e = record {
     pool =
         subst (λ (f : ℕ → ℕ). Pool f (word ws' rows 1) (word ws' rows 2) (link_at ws' rows) rows width count (log ++ (d ∷ [])))
-        (sym same_place)
+        (sym (fun_ext (λ j. pair-else ws at d.cover d.area (rows + 4 * j) (omega arith) (omega arith))))
         (again (place_at ws rows) (word ws rows 1) (word ws rows 2) (link_at ws rows) rows width count log P.pool d k hk e
         (word ws' rows 1) (word ws' rows 2)
         (pair-cover ws at d.cover d.area (omega arith))
@@ -120,10 +117,7 @@ module _ (ws : List ℕ) (rows width count : ℕ) (log : List Deposit) (P : Hold
         (pair-area ws at d.cover d.area (omega arith))
         (λ j ne. pair-else ws at d.cover d.area (rows + 4 * j + 2) (omega arith) (omega arith))
         (link_at ws' rows)
-        (λ r l hr. ap next_in (same-links r l hr)));
-    hinted = λ r hr. same-hint same_place (λ l. ap next_in (same-links r l hr)) (ap back_in (same-links r 0 hr)) (P.hinted r hr);
-    backed = λ r j hr m.
-        same-before same_place (λ l. ap next_in (same-links r l hr)) j (ap back_in (same-links r (suc j) hr)) (P.backed r j hr (rw (pair_place j) at m));
+        same-link);
   }
     where
       at : ℕ
@@ -132,15 +126,13 @@ module _ (ws : List ℕ) (rows width count : ℕ) (log : List Deposit) (P : Hold
       ws' : List ℕ
       ws' = with_pair ws at d.cover d.area
 
-      pair_place : (j : ℕ) → place_at ws' rows j ≡ place_at ws rows j
-      pair_place j = pair-else ws at d.cover d.area (rows + 4 * j) (omega arith) (omega arith)
+      same-link : (r l : ℕ) → r < rows → link_at ws' rows r l ≡ link_at ws rows r l
+      same-link r zero hr = ap next_in (pair-else ws at d.cover d.area r (omega arith) (omega arith))
+      same-link r (suc j) hr = ap next_in (pair-else ws at d.cover d.area (rows + 4 * j + 3) (omega arith) (omega arith))
 
-      same_place : place_at ws' rows ≡ place_at ws rows
-      same_place = fun_ext pair_place
-
-      same-links : (r l : ℕ) → r < rows → get_or ws' (link_word rows r l) 0 ≡ get_or ws (link_word rows r l) 0
-      same-links r zero hr = pair-else ws at d.cover d.area r (omega arith) (omega arith)
-      same-links r (suc j) hr = pair-else ws at d.cover d.area (rows + 4 * j + 3) (omega arith) (omega arith)
+  named_le : (row n : ℕ) → Named (place_at ws rows) count row n → n ≤ count
+  named_le row zero m = omega arith
+  named_le row (suc j) m = omega arith
 
   -- a deposit to a new place
   module _ (d : Deposit) (row last : ℕ) (hrow : row < rows) (o : Named (place_at ws rows) count row last) (is_row : d.place / per_row ≡ row)
@@ -156,93 +148,28 @@ module _ (ws : List ℕ) (rows width count : ℕ) (log : List Deposit) (P : Hold
     next : ℕ
     next = link_at ws rows row last
 
-    on : Named (place_at ws rows) count row (link_at ws rows row last)
-    on = (P.pool.links row last hrow o).named
-
-    near : next ≤ count
-    unfolding next
-    near = named_le (place_at ws rows) count row (link_at ws rows row last) on
-
-    -- the words after each step
     cell : List ℕ
-    unfolding at next
     cell = with_cell ws at d.place d.cover d.area (links_of next last)
 
-    followed : List ℕ
-    followed = with_followed cell rows count next (count + 1)
-
-    joined : List ℕ
-    joined = with_next followed lw (count + 1)
-
     ws' : List ℕ
-    ws' = with_back joined row (count + 1)
+    ws' = with_next cell lw (count + 1)
 
     lw-lt : lw < at
     unfolding lw at
-    lw-lt = link_word_lt rows row count last hrow (named_le (place_at ws rows) count row last o)
+    lw-lt = link_word_lt rows row count last hrow (named_le row last o)
 
-    length-cell : length cell ≡ length ws
-    unfolding cell
-    length-cell = simp length-set
-
-    length-followed : length followed ≡ length ws
-    unfolding followed
-    length-followed = followed-length cell rows count (count + 1) next ∙ length-cell
-
-    cell-fits : rows + 4 * count ≤ length cell
-    cell-fits = omega (arith, length-cell)
-
-    lw-fits : lw < length followed
-    unfolding at
-    lw-fits = omega (arith, lw-lt, length-followed)
-
-    row_fits : row < length joined
-    unfolding joined
-    row_fits = simp length-set (omega (arith, length-followed))
-
-    -- a word that is no link
-    part : (j p : ℕ) → p < 3 → get_or ws' (rows + 4 * j + p) 0 ≡ get_or cell (rows + 4 * j + p) 0
-    unfolding ws' joined followed lw
-    part j p h =
-        other joined row (rows + 4 * j + p) _ (omega arith)
-        ∙ other followed lw (rows + 4 * j + p) _ (link-part rows row hrow j p h last)
-        ∙ followed_else cell rows count (count + 1) cell-fits next near (rows + 4 * j + p) (λ k e. omega arith)
-
+    -- a word of an older cell that is no link, and of the new cell
     else-part : (j p : ℕ) → p < 3 → j < count → get_or ws' (rows + 4 * j + p) 0 ≡ get_or ws (rows + 4 * j + p) 0
-    unfolding cell at
+    unfolding ws' cell lw at
     else-part j p h hj =
-        part j p h ∙ cell-before ws at d.place d.cover d.area (links_of next last) (rows + 4 * j + p) (omega arith)
+        other cell lw (rows + 4 * j + p) _ (link-part rows row hrow j p h last)
+        ∙ cell-before ws at d.place d.cover d.area (links_of next last) (rows + 4 * j + p) (omega arith)
 
-    -- a link on: last's leads to the new cell, and any other is as the cell's words left it
-    on-else : (i : ℕ) → (i ≡ lw → ⊥) → next_in (get_or ws' i 0) ≡ next_in (get_or cell i 0)
-    unfolding ws' joined followed
-    on-else i ne =
-        back-next joined row (count + 1) row_fits i
-        ∙ ap next_in (other followed lw i _ ne)
-        ∙ followed-next cell rows count (count + 1) cell-fits next near i
+    new-part : (p v : ℕ) → get_or cell (at + p) 0 ≡ v → get_or ws' (at + p) 0 ≡ v
+    unfolding ws'
+    new-part p v e = other cell lw (at + p) _ (omega (arith, lw-lt)) ∙ e
 
-    on-last : next_in (get_or ws' lw 0) ≡ suc count
-    unfolding ws' joined
-    on-last = back-next joined row (count + 1) row_fits lw ∙ next_here followed lw (count + 1) lw-fits few ∙ add-one count
-
-    -- a link back: any but the head's and the follower's is as the cell's words left it
-    back-else : (i : ℕ) → (i ≡ row → ⊥) → back_in (get_or ws' i 0) ≡ back_in (get_or followed i 0)
-    unfolding ws' joined
-    back-else i ne = ap back_in (other joined row i _ ne) ∙ next-back followed lw (count + 1) lw-fits few i
-
-    back-apart : (i : ℕ) → (i ≡ row → ⊥) → ((k : ℕ) → next ≡ suc k → i ≡ rows + 4 * k + 3 → ⊥) → back_in (get_or ws' i 0) ≡ back_in (get_or cell i 0)
-    unfolding followed
-    back-apart i ne nf = back-else i ne ∙ ap back_in (followed_else cell rows count (count + 1) cell-fits next near i nf)
-
-    before_at : (i : ℕ) → i < at → get_or cell i 0 ≡ get_or ws i 0
-    unfolding cell
-    before_at i h = cell-before ws at d.place d.cover d.area (links_of next last) i h
-
-    new-links : get_or cell (rows + 4 * count + 3) 0 ≡ links_of next last
-    unfolding cell at
-    new-links = cell-links ws at d.place d.cover d.area (links_of next last) more
-
-    -- the word of any other link is another word
+    -- another link's word
     word-apart : (r l : ℕ) → r < rows → Named (place_at ws rows) count r l → ((r ≡ row) × (l ≡ last) → ⊥) → link_word rows r l ≡ lw → ⊥
     unfolding lw
     word-apart r l hr m ne = go l last m o ne
@@ -256,78 +183,50 @@ module _ (ws : List ℕ) (rows width count : ℕ) (log : List Deposit) (P : Hold
             let q : j ≡ k = omega arith in
             ne (sym m.1 ∙ ap (λ (x : ℕ). place_at ws rows x / per_row) q ∙ o.1, ap suc q)
 
-    -- ---- what the words now read as
+    else-link : (r l : ℕ) → r < rows → Named (place_at ws rows) count r l → ((r ≡ row) × (l ≡ last) → ⊥) → link_at ws' rows r l ≡ link_at ws rows r l
+    unfolding ws' cell at
+    else-link r l hr m ne =
+        ap next_in
+        (other cell lw (link_word rows r l) _ (word-apart r l hr m ne)
+        ∙ cell-before ws at d.place d.cover d.area (links_of next last) (link_word rows r l) (link_word_lt rows r count l hr (named_le r l m)))
 
-    place-else : (j : ℕ) → j < count → place_at ws' rows j ≡ place_at ws rows j
-    place-else j h = rw add-zero at (else-part j 0 (omega arith) h)
+    length-cell : length cell ≡ length ws
+    unfolding cell
+    length-cell = simp length-set
 
-    place-new : place_at ws' rows count ≡ d.place
-    unfolding cell at
-    place-new = rw add-zero at (part count 0 (omega arith)) ∙ cell-place ws at d.place d.cover d.area (links_of next last) more
-
-    link-else : (r l : ℕ) → r < rows → Named (place_at ws rows) count r l → ((r ≡ row) × (l ≡ last) → ⊥) → link_at ws' rows r l ≡ link_at ws rows r l
-    unfolding at
-    link-else r l hr m ne =
-        on-else (link_word rows r l) (word-apart r l hr m ne)
-        ∙ ap next_in (before_at (link_word rows r l) (link_word_lt rows r count l hr (named_le (place_at ws rows) count r l m)))
-
-    link-last : link_at ws' rows row last ≡ suc count
-    unfolding lw
-    link-last = on-last
-
-    link-new : (r : ℕ) → link_at ws' rows r (suc count) ≡ link_at ws rows row last
-    unfolding at next
-    link-new r =
-        on-else (rows + 4 * count + 3) (omega (arith, lw-lt)) ∙ ap next_in new-links ∙ next_links (link_at ws rows row last) last (omega arith)
-
-    back-row : back_at ws' rows row 0 ≡ suc count
-    unfolding ws'
-    back-row = back-here joined row (count + 1) row_fits ∙ add-one count
-
-    back-rows : (r : ℕ) → r < rows → (r ≡ row → ⊥) → back_at ws' rows r 0 ≡ back_at ws rows r 0
-    unfolding at
-    back-rows r hr ne = back-apart r ne (λ k e. omega arith) ∙ ap back_in (before_at r (omega arith))
-
-    back-new : back_at ws' rows row (suc count) ≡ last
-    unfolding next
-    back-new =
-        back-apart (rows + 4 * count + 3) (omega arith) (λ k e. omega (arith, near))
-        ∙ ap back_in new-links ∙ back_links (link_at ws rows row last) last (omega arith)
-
-    back-follower : (k : ℕ) → link_at ws rows row last ≡ suc k → back_at ws' rows row (suc k) ≡ suc count
-    unfolding followed next
-    back-follower k e =
-        back-else (rows + 4 * k + 3) (omega arith)
-        ∙ rw e (followed-here cell rows count (count + 1) cell-fits k (rw e at near)) ∙ add-one count
-
-    back-cell : (r k : ℕ) → r < rows → Named (place_at ws rows) count r (suc k) → (link_at ws rows row last ≡ suc k → ⊥) → back_at ws' rows r (suc k) ≡ back_at ws rows r (suc k)
-    unfolding at next
-    back-cell r k hr m ne =
-        back-apart (rows + 4 * k + 3) (omega arith) (λ j e q. ne (e ∙ omega arith)) ∙ ap back_in (before_at (rows + 4 * k + 3) (omega arith))
-
-    held-words : Holds ws' rows width (suc count) (log ++ (d ∷ []))
-    unfolding cell at
-    held-words = record {
+    held-anew : Holds ws' rows width (suc count) (log ++ (d ∷ []))
+    unfolding ws' cell next lw at
+    held-anew = record {
       pool =
           anew (place_at ws rows) (word ws rows 1) (word ws rows 2) (link_at ws rows) rows width count log P.pool d row last hrow o is_row column from to hc ha
           (place_at ws' rows) (word ws' rows 1) (word ws' rows 2) (link_at ws' rows)
-          place-else place-new
+          (λ j h. rw add-zero at (else-part j 0 (omega arith) h))
+          (rw add-zero at (new-part 0 d.place (rw add-zero (cell-place ws at d.place d.cover d.area (links_of next last) more))))
           (λ j h. else-part j 1 (omega arith) h)
-          (part count 1 (omega arith) ∙ cell-cover ws at d.place d.cover d.area (links_of next last) more)
+          (new-part 1 d.cover (cell-cover ws at d.place d.cover d.area (links_of next last) more))
           (λ j h. else-part j 2 (omega arith) h)
-          (part count 2 (omega arith) ∙ cell-area ws at d.place d.cover d.area (links_of next last) more)
-          link-else link-last link-new;
-      hinted = λ r hr.
-          new-hint (place_at ws rows) (place_at ws' rows) (link_at ws rows) (link_at ws' rows) (back_at ws rows) (back_at ws' rows) rows count row last o on
-          place-else new_row link-else link-last link-new back-row back-rows r hr (P.hinted r hr);
-      backed =
-          new-before (place_at ws rows) (place_at ws' rows) (link_at ws rows) (link_at ws' rows) (back_at ws rows) (back_at ws' rows) rows count row last o on
-          place-else new_row link-else link-last link-new back-new back-follower back-cell P.backed;
+          (new-part 2 d.area (cell-area ws at d.place d.cover d.area (links_of next last) more))
+          else-link
+          (ap next_in (same cell lw _ (omega (arith, lw-lt, length-cell))) ∙ next_links (count + 1) (back_in (get_or cell lw 0)) few ∙ add-one count)
+          (λ r. ap next_in (new-part 3 (links_of next last) (cell-links ws at d.place d.cover d.area (links_of next last) more)) ∙ next_links next last (omega arith));
     }
-      where
-        new_row : place_at ws' rows count / per_row ≡ row
-        new_row = ap (λ (x : ℕ). x / per_row) place-new ∙ is_row
 
-    pub held_new : Holds (with_new ws rows count row last (link_at ws rows row last) d.place d.cover d.area) rows width (suc count) (log ++ (d ∷ []))
-    unfolding ws' joined followed cell next lw at
-    held_new = held-words
+    -- with the two links back
+    pub held_new : Holds (with_new ws rows count row last d.place d.cover d.area) rows width (suc count) (log ++ (d ∷ []))
+    unfolding ws' cell next lw at
+    held_new =
+        rw (le-ltb count (link_at ws rows row last) near)
+        (held_back led rows width (suc count) (log ++ (d ∷ [])) one row (link_at ws rows row last) (count + 1) hrow
+        (omega (arith, link_word_lt rows row count (link_at ws rows row last) hrow near, length-led)))
+      where
+        near : link_at ws rows row last ≤ count
+        near = named_le row (link_at ws rows row last) (P.pool.links row last hrow o).named
+
+        led : List ℕ
+        led = with_linked ws rows count row last d.place d.cover d.area
+
+        one : Holds led rows width (suc count) (log ++ (d ∷ []))
+        one = held_back ws' rows width (suc count) (log ++ (d ∷ [])) held-anew row 0 (count + 1) hrow (simp length-set (omega arith))
+
+        length-led : length led ≡ length ws
+        length-led = simp length-set

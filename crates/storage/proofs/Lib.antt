@@ -2,9 +2,7 @@ pub mod Words
 pub mod Places
 pub mod Sums
 pub mod Linked
-pub mod Backs
 pub mod Walk
-pub mod Halves
 pub mod Held
 pub mod Stores
 pub mod Pools

@@ -16,11 +16,6 @@ pub high_row : (place : ℕ → ℕ) (count row n : ℕ) → Named place count r
 high_row place count row zero o = omega arith
 high_row place count row (suc j) o = omega arith
 
--- a cell of the row stays one where there is a cell more
-pub named_more : (place place' : ℕ → ℕ) (count : ℕ) → ((j : ℕ) → j < count → place' j ≡ place j) → (r n : ℕ) → Named place count r n → Named place' (suc count) r n
-named_more place place' count p-else r zero m = tt
-named_more place place' count p-else r (suc j) m = (omega arith, ap (λ (x : ℕ). x / per_row) (p-else j m.0) ∙ m.1)
-
 module _ (place cover area : ℕ → ℕ) (link : ℕ → ℕ → ℕ) (rows width count : ℕ) (log : List Deposit) (P : Pool place cover area link rows width count log) where
   -- no cell's place lies in a gap
   no_cell : (k row lo n : ℕ) → k < count → Link place count log row lo n → lo ≤ place k → place k < high place row n → ⊥
@@ -111,7 +106,8 @@ module _ (place cover area : ℕ → ℕ) (link : ℕ → ℕ → ℕ) (rows wid
     not_known = here.gap d.place from to
 
     named' : (r n : ℕ) → Named place count r n → Named place' (suc count) r n
-    named' r n m = named_more place place' count p-else r n m
+    named' r zero m = tt
+    named' r (suc j) m = (omega arith, ap (λ (x : ℕ). x / per_row) (p-else j m.0) ∙ m.1)
 
     low' : (r n : ℕ) → Named place count r n → low place' r n ≡ low place r n
     low' r zero m = refl

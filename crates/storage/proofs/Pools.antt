@@ -2,10 +2,12 @@
 use Rattle.std.proofs.Common.{◌≡◌, ℕ, zero, suc, ◌+◌, ◌*◌, ◌%◌, ◌<◌, ◌≤◌, true, List, [], ◌∷◌, ◌++◌, length, get_or, replicate, sym, refl, ap, ◌∙◌, subst, append_assoc, append-nil, arith, le-leb}
 use lib.ListN.{length-replicate, get_or-replicate, get_or-append}
 use borrow.Author.Tests.{lt-leb}
+use Rattle.storage.specs.declared.Kept.{Kept}
+use Rattle.storage.specs.declared.Kept.TheVariants.{Cells, Full}
 use Rattle.storage.specs.Deposits.{per_row, Deposit, given, known, distinct}
 use Rattle.storage.specs.Laws.{distinct_mono}
 use Rattle.storage.specs.Cells.{Named, low, high, Link, next_in, place_at, word, link_at, Holds, columns, Rising}
-use Rattle.storage.specs.Answers.{Room, Kept, Cells, Full, Within, kept_of, Stored, Storing, Deposited}
+use Rattle.storage.specs.Answers.{Room, Within, kept_of, Stored, Storing, Deposited}
 use Rattle.storage.proofs.Sums.{distinct-again}
 
 -- ---- a pool with no cells
@@ -20,8 +22,6 @@ empty ws rows width heads = record {
     apart = λ j k h. absurd (omega arith);
     counted = refl;
   };
-  hinted = λ row h. record { named = rw (heads row h) tt; none = λ z. rw (heads row h) refl };
-  backed = λ row k h m. absurd (omega arith);
 }
   where
     first : (row last : ℕ) → row < rows → Named (place_at ws rows) 0 row last → Link (place_at ws rows) 0 [] row (low (place_at ws rows) row last) (link_at ws rows row last)

@@ -1,7 +1,9 @@
--- What the answers of the search and of `store` say.
-use Rattle.std.specs.Prelude.{◌≡◌, ℕ, ◌+◌, ◌*◌, ◌/◌, ◌^◌, ◌<◌, ◌≤◌, cond, List, [], ◌∷◌, ◌++◌, length, nat_le}
-use Rattle.storage.specs.Deposits.{per_row, Deposit, given, distinct}
-use Rattle.storage.specs.Cells.{Named, low, high, place_at, link_at, Holds, with_new}
+-- What the answers of the walks and of `store` say.
+use Rattle.std.specs.Prelude.{◌≡◌, ℕ, zero, suc, ◌+◌, ◌*◌, ◌<◌, ◌≤◌, Bool, false, cond, List, [], ◌∷◌, ◌++◌, length, ◌==◌, nat_le}
+use Rattle.storage.specs.declared.Kept.{Kept}
+use Rattle.storage.specs.declared.Kept.TheVariants.{Cells, Full}
+use Rattle.storage.specs.Deposits.{Deposit, given, distinct}
+use Rattle.storage.specs.Cells.{Named, low, high, place_at, link_at, Holds}
 
 -- the most rows and cells that a pool has
 abbrev pub most_rows : ℕ
@@ -17,44 +19,31 @@ pub record Room (words : List ℕ) (rows cap count : ℕ) : Type 0 where
   pub few_rows : rows ≤ most_rows
   pub few_cells : cap ≤ most_cells
 
--- ---- the search along a row's list
+-- ---- the two walks along a row's list
 
--- what is sought, in words of any content: a place of one of their rows
-pub record Seeking (ws : List ℕ) (rows count row place : ℕ) : Type 0 where
-  pub is_row : place / per_row ≡ row
-  pub in_rows : row < rows
-  pub small : place < 2 ^ 32
-  pub fits : rows + 4 * count ≤ length ws
-
--- a walk may start from n: it names a cell, and in a pool one of the row
-pub record OfRow (ws : List ℕ) (rows count row n : ℕ) : Type 0 where
-  pub some : 0 < n
-  pub within : n ≤ count
-  pub so : (width : ℕ) (log : List Deposit) → Holds ws rows width count log → Named (place_at ws rows) count row n
-
--- n is 0, the row's start, or a cell of the row that is not past the place
+-- the walk to a place may start behind n: n is 0, the row's start, or a cell of the row that is not past the place
 abbrev pub Upto : (ℕ → ℕ) → ℕ → ℕ → ℕ → ℕ → Type 0
 Upto place count row p n = Named place count row n × (low place row n ≤ p + 1)
 
--- the search ends behind last: in a pool this is the row's last cell that is not past the place
+-- the walk ends behind last: in a pool this is the row's last cell that is not past the place
 pub record Sought (ws : List ℕ) (rows count row place last : ℕ) : Type 0 where
   pub within : last ≤ count
   pub so : (width : ℕ) (log : List Deposit) → Holds ws rows width count log
       → Upto (place_at ws rows) count row place last × (place < high (place_at ws rows) row (link_at ws rows row last))
 
--- ---- store
+-- whether a link names the cell of a place
+abbrev pub is_at : List ℕ → ℕ → ℕ → ℕ → Bool
+is_at ws rows place zero = false
+is_at ws rows place (suc k) = place_at ws rows k == place
 
--- what became of deposits: they are stored, and the pool has so many cells; or they have more distinct places than it can have
-pub data Kept : Type 0 where
-  Cells : ℕ → Kept
-  Full : Kept
+-- ---- store
 
 -- the cells that are told of are the pool's
 abbrev pub Within : ℕ → Kept → Type 0
 Within cap (Cells n) = n ≤ cap
 Within cap Full = Unit {0}
 
--- the answer as one number: full exactly when this is more than the pool can have
+-- the answer of a log with n distinct places: full exactly when these are more than the pool holds
 abbrev pub kept_of : ℕ → ℕ → Kept
 kept_of cap n = cond (nat_le n cap) (Cells n) Full
 
@@ -62,11 +51,6 @@ kept_of cap n = cond (nat_le n cap) (Cells n) Full
 abbrev pub Stored : List ℕ → ℕ → ℕ → ℕ → List Deposit → Kept → Type 0
 Stored ws rows width cap log (Cells n) = Holds ws rows width n log
 Stored ws rows width cap log Full = cap < distinct log
-
--- what `insert` makes of words: a new cell, or nothing where the pool has no room
-pub record Inserting (before after : List ℕ) (rows cap count row last next place cover area r : ℕ) : Type 0 where
-  pub full : cap ≤ count → (r ≡ cap + 1) × (after ≡ before)
-  pub new : count < cap → (r ≡ count + 1) × (after ≡ with_new before rows count row last next place cover area)
 
 -- what `store` makes of words: whatever log they held, they hold it with the pair behind it, or that is too much for the pool
 pub record Storing (before after : List ℕ) (rows cap count row column cover area : ℕ) (r : Kept) : Type 0 where

@@ -41,16 +41,6 @@ pub record Pool (place cover area : ℕ → ℕ) (link : ℕ → ℕ → ℕ) (r
   pub apart : (j k : ℕ) → j < count → k < count → place j ≡ place k → j ≡ k
   pub counted : count ≡ distinct log
 
--- the head's link back, the row's hint: it names a cell of the row, and is 0 only where the row has none
-pub record Hint (place : ℕ → ℕ) (link back : ℕ → ℕ → ℕ) (count row : ℕ) : Type 0 where
-  pub named : Named place count row (back row 0)
-  pub none : back row 0 ≡ 0 → link row 0 ≡ 0
-
--- the link back of cell k: it names the cell of the row, or for 0 the head, whose link on leads to k
-pub record Before (place : ℕ → ℕ) (link back : ℕ → ℕ → ℕ) (count row k : ℕ) : Type 0 where
-  pub named : Named place count row (back row (suc k))
-  pub leads : link row (back row (suc k)) ≡ suc k
-
 -- ---- a word of links
 
 -- a head, or a cell's last word, holds two of 16 bits each: one on to the next cell in its low half, one back in its high half
@@ -83,14 +73,9 @@ link_word rows row (suc k) = rows + 4 * k + 3
 abbrev pub link_at : List ℕ → ℕ → ℕ → ℕ → ℕ
 link_at ws rows row last = next_in (slice_index ws (link_word rows row last))
 
-abbrev pub back_at : List ℕ → ℕ → ℕ → ℕ → ℕ
-back_at ws rows row last = back_in (slice_index ws (link_word rows row last))
-
--- the first count cells of the words hold the log, each row has its hint, and each link back leads against a link on
+-- the first count cells of the words hold the log; what the links back are is not said, since nothing but time turns on them
 pub record Holds (ws : List ℕ) (rows width count : ℕ) (log : List Deposit) : Type 0 where
   pub pool : Pool (place_at ws rows) (word ws rows 1) (word ws rows 2) (link_at ws rows) rows width count log
-  pub hinted : (row : ℕ) → row < rows → Hint (place_at ws rows) (link_at ws rows) (back_at ws rows) count row
-  pub backed : (row k : ℕ) → row < rows → Named (place_at ws rows) count row (suc k) → Before (place_at ws rows) (link_at ws rows) (back_at ws rows) count row k
 
 -- ---- the ways in which a deposit changes the words
 abbrev pub with_sum : List ℕ → ℕ → ℕ → List ℕ
@@ -109,20 +94,18 @@ with_next ws at n = slice_set ws at (links_of n (back_in (slice_index ws at)))
 abbrev pub with_back : List ℕ → ℕ → ℕ → List ℕ
 with_back ws at n = slice_set ws at (links_of (next_in (slice_index ws at)) n)
 
--- the row leads to cell n: last, or the head for 0, on to it, and the head back to it
-abbrev pub with_led : List ℕ → ℕ → ℕ → ℕ → ℕ → List ℕ
-with_led ws rows row last n = with_back (with_next ws (link_word rows row last) n) row n
+-- a new cell behind last and before next: last leads on to it, the head back to it
+abbrev pub with_linked : List ℕ → ℕ → ℕ → ℕ → ℕ → ℕ → ℕ → ℕ → List ℕ
+with_linked ws rows count row last place cover area =
+    let cell = with_cell ws (rows + 4 * count) place cover area (links_of (link_at ws rows row last) last) in
+    with_back (with_next cell (link_word rows row last) (count + 1)) row (count + 1)
 
--- the cell that follows leads back to cell n; 0 names none, and on words that are no pool's neither need another link
-abbrev pub with_followed : List ℕ → ℕ → ℕ → ℕ → ℕ → List ℕ
-with_followed ws rows count zero n = ws
-with_followed ws rows count (suc k) n = cond (nat_lt count (suc k)) ws (with_back ws (rows + 4 * k + 3) n)
-
--- a new cell behind last and before next
-abbrev pub with_new : List ℕ → ℕ → ℕ → ℕ → ℕ → ℕ → ℕ → ℕ → ℕ → List ℕ
-with_new ws rows count row last next place cover area =
-    let cell = with_cell ws (rows + 4 * count) place cover area (links_of next last) in
-    with_led (with_followed cell rows count next (count + 1)) rows row last (count + 1)
+-- and next back to it, unless the pool has no such cell
+abbrev pub with_new : List ℕ → ℕ → ℕ → ℕ → ℕ → ℕ → ℕ → ℕ → List ℕ
+with_new ws rows count row last place cover area =
+    let linked = with_linked ws rows count row last place cover area in
+    let next = link_at ws rows row last in
+    cond (nat_lt count next) linked (with_back linked (link_word rows row next) (count + 1))
 
 -- ---- a row's list
 

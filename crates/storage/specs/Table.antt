@@ -1,7 +1,8 @@
 -- Worked values of the rules, by computation.
 use Rattle.std.specs.Prelude.{◌≡◌, ℕ, true, false, List, [], ◌∷◌, map, replicate, nat_eq, refl}
 use Rattle.storage.specs.Deposits.{place_of, Deposit, given, cover_of, area_of, known, distinct, sum_of}
-use Rattle.storage.specs.Cells.{next_in, back_in, links_of, link_at, back_at, with_pair, with_back, with_new, columns}
+use Rattle.storage.specs.Cells.{next_in, back_in, links_of, link_at, with_pair, with_back, with_new, columns}
+use Rattle.storage.specs.Answers.{is_at}
 
 -- column −1 of row 0, the last place of the row, the first of the next, and column 4095 of row 4095
 places :
@@ -38,9 +39,9 @@ halves = refl
 -- two rows and three cells; in row 1 place 5 is stored, then place 3 before it and place 7 behind it
 pool : List ℕ
 pool =
-    let first = with_new (replicate 14 0) 2 0 1 0 0 (place_of 1 5) 10 20 in
-    let second = with_new first 2 1 1 0 1 (place_of 1 3) 30 40 in
-    with_new second 2 2 1 1 0 (place_of 1 7) 50 60
+    let first = with_new (replicate 14 0) 2 0 1 0 (place_of 1 5) 10 20 in
+    let second = with_new first 2 1 1 0 (place_of 1 3) 30 40 in
+    with_new second 2 2 1 1 (place_of 1 7) 50 60
 
 -- row 1's head leads on to cell 2 and back to cell 3, cell 1 on to 3 and back to 2, cell 2 on to 1, cell 3 back to 1
 words :
@@ -56,21 +57,12 @@ list : columns pool 2 3 (link_at pool 2 1 0) ≡ 3 ∷ 5 ∷ 7 ∷ []
 unfolding pool columns
 list = refl
 
--- row 1's hint is cell 3, stored into last; row 0 has no cell and no hint
-hints : back_at pool 2 1 0 ∷ back_at pool 2 0 0 ∷ link_at pool 2 0 0 ∷ [] ≡ 3 ∷ 0 ∷ 0 ∷ []
+-- cell 1 is that of place 5; cell 2 is not, and 0 is no cell
+named : map (is_at pool 2 (place_of 1 5)) (1 ∷ 2 ∷ 0 ∷ []) ≡ true ∷ false ∷ false ∷ []
 unfolding pool
-hints = refl
-
--- before cells 1, 2, 3 are cell 2, the head, cell 1; there the links on lead to 1, 2, 3
-backs : map (back_at pool 2 1) (1 ∷ 2 ∷ 3 ∷ []) ≡ 2 ∷ 0 ∷ 1 ∷ []
-unfolding pool
-backs = refl
-
-ons : map (λ (n : ℕ). link_at pool 2 1 (back_at pool 2 1 n)) (1 ∷ 2 ∷ 3 ∷ []) ≡ 1 ∷ 2 ∷ 3 ∷ []
-unfolding pool
-ons = refl
+named = refl
 
 -- place 5 again: its sums grow, and the head leads back to it
-again : with_pair (with_back pool 1 1) 2 1 4294967295 ≡ 0 ∷ 65538 ∷ 8197 ∷ 11 ∷ 19 ∷ 131075 ∷ 8195 ∷ 30 ∷ 40 ∷ 1 ∷ 8199 ∷ 50 ∷ 60 ∷ 65536 ∷ []
+again : with_back (with_pair pool 2 1 4294967295) 1 1 ≡ 0 ∷ 65538 ∷ 8197 ∷ 11 ∷ 19 ∷ 131075 ∷ 8195 ∷ 30 ∷ 40 ∷ 1 ∷ 8199 ∷ 50 ∷ 60 ∷ 65536 ∷ []
 unfolding pool
 again = refl

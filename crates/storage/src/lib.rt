@@ -1,13 +1,13 @@
 // The pool of cells in a lent workspace, `HeapStorage` of the Rust: a head for each row, then four words a cell, its place, cover, area and links.
 // A link is 0, or one more than a cell's index; a head, and a cell's word of links, hold two. The link on leads along the row's list, in rising place: from
-// the head to the first cell, from a cell to the next. The link back leads from a cell to the one before it, and from the head to the cell stored into last:
-// there each search starts, and it goes on or back along the row to its place.
+// the head to the first cell, from a cell to the next. The link back leads from the head to the cell stored into last, from a cell to the one before it: it
+// saves the walk from the row's start, and no answer turns on it.
 // A place is PER_ROW times the row, plus the column counted from 0 for column -1.
 // Each function stays inside the words it is lent and ends, whatever they hold.
-ghost use Rattle.std.specs.Prelude.{◌≡◌, ◌+◌, ◌-◌, ◌*◌, ◌%◌, ◌^◌, ◌<◌, ◌≤◌, ◌++◌, length, drop, replicate, slice_index};
+ghost use Rattle.std.specs.Prelude.{◌≡◌, ◌+◌, ◌*◌, ◌/◌, ◌%◌, ◌^◌, ◌<◌, ◌≤◌, ◌++◌, length, drop, replicate, slice_index};
 ghost use Rattle.storage.specs.Deposits.{per_row};
-ghost use Rattle.storage.specs.Cells.{place_at, half, next_in, back_in, links_of, with_sum, with_pair, with_cell, with_next, with_back, with_led, with_followed};
-ghost use Rattle.storage.specs.Answers.{Room, Seeking, OfRow, Sought, Inserting, kept_of, Storing};
+ghost use Rattle.storage.specs.Cells.{place_at, half, next_in, back_in, links_of, link_word, with_sum, with_pair, with_cell, with_next, with_back, with_new};
+ghost use Rattle.storage.specs.Answers.{Room, Upto, Sought, is_at, Storing};
 
 // The places of a row, more than it has columns.
 pub const PER_ROW: usize = 8192;
@@ -85,24 +85,58 @@ fn set_back(ws: &mut [u32], at: usize, n: usize)
     ws[at] = links(next_in(ws[at]), n);
 }
 
-// On along the row, from a cell that is not past the place to the last that is not. `low` rises at each step, so that the walk ends on any words.
-fn ahead(ws: &[u32], rows: usize, count: usize, row: usize, place: usize, from: usize) -> usize
-    requires { Seeking ws.now rows count row place × OfRow ws.now rows count row from × (place_at ws.now rows (from - 1) ≤ place) }
+// Walks back from the cell stored into last to one that is not past the place; answers 0, the row's start, where it meets none or that is nearer.
+// `high` falls at each step, so that the walk ends on any words.
+fn walk_back(ws: &[u32], rows: usize, count: usize, row: usize, place: usize) -> usize
+    requires { (row < rows) × (rows + 4 * count ≤ length ws.now) × (place / per_row ≡ row) }
+    ensures { Upto (place_at ws.now rows) count row place result }
+{
+    let start = PER_ROW * row;
+    let mut high: usize = 0x1_0000_0000;
+    let mut link = back_in(ws[row]);
+    while link != 0 {
+        if count < link {
+            return 0;
+        }
+        let at = rows + 4 * (link - 1);
+        let here = word(ws, at);
+        if high <= here {
+            return 0;
+        }
+        if here <= place {
+            if here < start {
+                return 0;
+            }
+            return link;
+        }
+        if place - start < here - place {
+            return 0;
+        }
+        high = here;
+        link = back_in(ws[at + 3]);
+    }
+    0
+}
+
+// Walks on to the row's last cell that is not past the place. `low` rises at each step, so that the walk ends on any words.
+fn walk_on(ws: &[u32], rows: usize, count: usize, row: usize, place: usize, from: usize) -> usize
+    requires { (row < rows) × (rows + 4 * count ≤ length ws.now) × (place / per_row ≡ row) × (place < 2 ^ 32) × Upto (place_at ws.now rows) count row place from }
     ensures { Sought ws.now rows count row place result }
 {
     let mut last = from;
     let mut low: usize = 0;
-    let mut next = next_in(ws[rows + 4 * (from - 1) + 3]);
+    let behind = link_word(rows, row, from);
+    let mut next = next_in(ws[behind]);
     while next != 0 {
         if count < next {
             return last;
         }
         let at = rows + 4 * (next - 1);
         let here = word(ws, at);
-        if place < here {
+        if here < low {
             return last;
         }
-        if here < low {
+        if place < here {
             return last;
         }
         low = here + 1;
@@ -112,48 +146,26 @@ fn ahead(ws: &[u32], rows: usize, count: usize, row: usize, place: usize, from: 
     last
 }
 
-// Back along the row, from a cell past the place to the first that is not, 0 for none. `high` falls at each step, so that the walk ends on any words.
-fn behind(ws: &[u32], rows: usize, count: usize, row: usize, place: usize, from: usize) -> usize
-    requires { Seeking ws.now rows count row place × OfRow ws.now rows count row from × (place < place_at ws.now rows (from - 1)) }
-    ensures { Sought ws.now rows count row place result }
+// Whether a link names the cell of a place.
+fn is_at(ws: &[u32], rows: usize, place: usize, link: usize) -> bool
+    requires { rows + 4 * link ≤ length ws.now }
+    ensures { «r» ≡ is_at ws.now rows place link }
 {
-    let mut link = from;
-    let mut high = word(ws, rows + 4 * (from - 1));
-    loop {
-        link = back_in(ws[rows + 4 * (link - 1) + 3]);
-        if link == 0 {
-            return 0;
-        }
-        if count < link {
-            return 0;
-        }
-        let here = word(ws, rows + 4 * (link - 1));
-        if here <= place {
-            return link;
-        }
-        if high <= here {
-            return 0;
-        }
-        high = here;
+    if link == 0 {
+        return false;
     }
+    word(ws, rows + 4 * (link - 1)) == place
 }
 
-// The row's last cell that is not past the place, 0 for none: sought from the cell stored into last, on or back along the row.
-fn seek(ws: &[u32], rows: usize, count: usize, row: usize, place: usize) -> usize
-    requires { Seeking ws.now rows count row place }
-    ensures { Sought ws.now rows count row place result }
+// Where the links behind a cell stand; the row's head for 0.
+fn link_word(rows: usize, row: usize, last: usize) -> usize
+    requires { rows + 4 * last < 2 ^ 64 }
+    ensures { result ≡ link_word rows row last }
 {
-    let hint = back_in(ws[row]);
-    if hint == 0 {
-        return 0;
+    if last == 0 {
+        return row;
     }
-    if count < hint {
-        return 0;
-    }
-    if word(ws, rows + 4 * (hint - 1)) <= place {
-        return ahead(ws, rows, count, row, place, hint);
-    }
-    behind(ws, rows, count, row, place, hint)
+    rows + 4 * (last - 1) + 3
 }
 
 // Sums wrap at 32 bits.
@@ -191,61 +203,41 @@ fn put_cell(ws: &mut [u32], at: usize, place: u32, cover: u32, area: u32, links:
     ws[at + 3] = links;
 }
 
-// Leads the row to cell n: on to it from last, from the head for 0, and back to it from the head, whose word is written once.
-fn lead_on(ws: &mut [u32], rows: usize, row: usize, last: usize, n: usize)
-    requires { (row < rows) × (rows + 4 * last ≤ length ws.old) × (n < half) }
-    ensures { ws.new ≡ with_led ws.old rows row last n }
-{
-    if last == 0 {
-        ws[row] = links(n, n);
-        return;
-    }
-    set_next(ws, rows + 4 * (last - 1) + 3, n);
-    set_back(ws, row, n);
+#[derive(Drop)]
+pub enum Kept {
+    // Stored; the pool now has so many cells.
+    Cells(usize),
+    // One place more than the pool holds.
+    Full,
 }
 
-// Leads the cell that follows back to cell n. On words that are no pool's, what follows need not be a cell.
-fn lead_back(ws: &mut [u32], rows: usize, count: usize, next: usize, n: usize)
-    requires { (rows + 4 * count ≤ length ws.old) × (n < half) }
-    ensures { ws.new ≡ with_followed ws.old rows count next n }
-{
-    if next == 0 {
-        return;
-    }
-    if count < next {
-        return;
-    }
-    set_back(ws, rows + 4 * (next - 1) + 3, n);
-}
-
-// Puts a new cell behind last and before next. Answers how many cells the pool then has, or one more than it can have where it has no room.
+// Puts a new cell behind last and before the one that followed it: the links of both lead to it, and the head's link back.
+// On words that are no pool's, the one that followed need not be a cell.
 fn insert(
     ws: &mut [u32],
     rows: usize,
-    cap: usize,
     count: usize,
     row: usize,
     last: usize,
-    next: usize,
-    place: usize,
+    place: u32,
     cover: u32,
     area: u32,
-) -> usize
-    requires { Room ws.old rows cap count × (row < rows) × (last ≤ count) × (next < half) × (place < 2 ^ 32) }
-    ensures { Inserting ws.old ws.new rows cap count row last next place cover area result }
+)
+    requires { (row < rows) × (rows + 4 * count + 3 < length ws.old) × (last ≤ count) × (count + 1 < half) }
+    ensures { ws.new ≡ with_new ws.old rows count row last place cover area }
 {
-    if cap <= count {
-        return cap + 1;
+    let behind = link_word(rows, row, last);
+    let next = next_in(ws[behind]);
+    put_cell(ws, rows + 4 * count, place, cover, area, links(next, last));
+    set_next(ws, behind, count + 1);
+    set_back(ws, row, count + 1);
+    if count < next {
+        return;
     }
-    let both = links(next, last);
-    put_cell(ws, rows + 4 * count, place as u32, cover, area, both);
-    lead_back(ws, rows, count, next, count + 1);
-    lead_on(ws, rows, row, last, count + 1);
-    count + 1
+    set_back(ws, link_word(rows, row, next), count + 1);
 }
 
 // Stores a pair: in the row's last cell that is not past its place, if that is the place's own, and in a new cell behind it if not.
-// Answers how many cells the pool then has, or one more than it can have where it has no room.
 pub fn store(
     ws: &mut [u32],
     rows: usize,
@@ -255,22 +247,21 @@ pub fn store(
     column: usize,
     cover: u32,
     area: u32,
-) -> usize
+) -> Kept
     requires { Room ws.old rows cap count × (row < rows) × (column < per_row) }
-    ensures { Storing ws.old ws.new rows cap count row column cover area (kept_of cap result) }
+    ensures { Storing ws.old ws.new rows cap count row column cover area result }
 {
     let place = PER_ROW * row + column;
-    let last = seek(ws, rows, count, row, place);
-    if last == 0 {
-        let first = next_in(ws[row]);
-        return insert(ws, rows, cap, count, row, 0, first, place, cover, area);
-    }
-    let at = rows + 4 * (last - 1);
-    if word(ws, at) == place {
+    let from = walk_back(ws, rows, count, row, place);
+    let last = walk_on(ws, rows, count, row, place, from);
+    if is_at(ws, rows, place, last) {
+        add_pair(ws, rows + 4 * (last - 1), cover, area);
         set_back(ws, row, last);
-        add_pair(ws, at, cover, area);
-        return count;
+        return Kept::Cells(count);
     }
-    let next = next_in(ws[at + 3]);
-    insert(ws, rows, cap, count, row, last, next, place, cover, area)
+    if cap <= count {
+        return Kept::Full;
+    }
+    insert(ws, rows, count, row, last, place as u32, cover, area);
+    Kept::Cells(count + 1)
 }

@@ -1,18 +1,15 @@
 -- The sweep of a row. Up to the column that it has come to each pixel has its byte, and the sum is the row's cover up to there; in a pool the next link
 -- leads to the first cell from there on, so that no pixel before it has one.
-use Rattle.std.proofs.Common.{◌≡◌, ℕ, zero, suc, ◌+◌, ◌-◌, ◌*◌, ◌/◌, ◌%◌, ◌^◌, ◌<◌, ◌≤◌, false, eqb, List, length, get_or, take, sym, refl, ap, ◌∙◌, ap₂, add-zero, arith}
+use Rattle.std.proofs.Common.{◌≡◌, ℕ, zero, suc, ◌+◌, ◌-◌, ◌*◌, ◌/◌, ◌%◌, ◌^◌, ◌<◌, ◌≤◌, false, eqb, List, length, get_or, sym, refl, ap, ◌∙◌, ap₂, add-zero, arith}
 use native.Mathlib.Decide.{dec_lt, ℕ_discrete}
-use borrow.Rule.Slice.PartMut.{put_mid}
 use Rattle.storage.specs.Deposits.{per_row, Deposit, known, sum_of, cover_of, area_of}
 use Rattle.storage.specs.Cells.{Named, low, high, Link, Cell, next_in, place_at, word, Holds}
 use Rattle.sweep.specs.declared.Fill.{Fill}
 use Rattle.sweep.specs.Pixels.{signed, byte_of, cover_up_to, pixel}
 use Rattle.sweep.specs.Rows.{Painted, CellSwept}
 use Rattle.storage.proofs.Sums.{sum_unknown}
-use Rattle.sweep.proofs.Lines.{mid-behind, mid-long}
-use Rattle.sweep.proofs.Runs.{cell_back}
 use Rattle.sweep.proofs.Spans.{span, span_gap, span_more, span_none, span_upto}
-use Rattle.storage.proofs.Walk.{place-of, link-of, low_of, named_le}
+use Rattle.storage.proofs.Walk.{place_of, link-of, low_of, named_le}
 
 -- a link that is not 0 names a cell of the row
 named_at : (place : ℕ → ℕ) (count row n : ℕ) → (n ≡ 0 → ⊥) → Named place count row n → (n - 1 < count) × (place (n - 1) / per_row ≡ row)
@@ -81,7 +78,7 @@ module _ {ws d : List ℕ} {rows count row width : ℕ} {fill : Fill} (hrow : ro
 
     module _ {here : ℕ} (ne : next ≡ 0 → ⊥) (e : here ≡ get_or ws (rows + 4 * (next - 1)) 0) where
       here-is : here ≡ high (place_at ws rows) row next
-      here-is = e ∙ place-of ws rows row next ne
+      here-is = e ∙ place_of ws rows row next ne
 
       pub back : here < per_row * row + at → (log : List Deposit) → Holds ws rows width count log → ⊥
       back h log P = omega (arith, here-is, (s.so log P).link.above)
@@ -126,15 +123,14 @@ module _ {ws d : List ℕ} {rows count row width : ℕ} {fill : Fill} (hrow : ro
         next-link : {after : ℕ} → after ≡ next_in (get_or ws (rows + 4 * (next - 1) + 3) 0) → Link (place_at ws rows) count log row (here + 1) after
         next-link f = rw (f, link-of ws rows row next ne, here-is, ← low_of ws rows row next ne) (P.pool.links row next hrow R.link.named)
 
-      -- the row's own bytes were lent for the cell and have come back as ys
-      pub more : {ys : List ℕ} {r after : ℕ} → per_row * row + at ≤ here → here - per_row * row ≤ width → width ≤ length d' → length ys ≡ width
-          → CellSwept ws (rows + 4 * (next - 1)) (take width d') ys at (here - per_row * row) cover fill r
-          → after ≡ next_in (get_or ws (rows + 4 * (next - 1) + 3) 0)
-          → Sweep ws d (put_mid 0 width d' ys) rows count row width fill (here - per_row * row + 1) r after
-      more {ys} {r} {after} from hw room len cell f = record {
+      pub more : {d'' : List ℕ} {r after : ℕ} → per_row * row + at ≤ here → here - per_row * row ≤ width
+          → CellSwept ws (rows + 4 * (next - 1)) d' d'' at (here - per_row * row) cover fill r
+          → length d'' ≡ length d' → after ≡ next_in (get_or ws (rows + 4 * (next - 1) + 3) 0)
+          → Sweep ws d d'' rows count row width fill (here - per_row * row + 1) r after
+      more {d''} {r} {after} from hw p len f = record {
         top = omega arith;
-        long = mid-long 0 width d' ys fits len ∙ s.long;
-        behind = λ x h. mid-behind 0 width d' ys fits len x (omega arith) ∙ s.behind x h;
+        long = len ∙ s.long;
+        behind = λ x h. p.behind x (omega arith) ∙ s.behind x h;
         so = λ log P. record {
           link = rw at_here (next-link log P from p.sum f);
           sum = rw at_here (sum-next log P from p.sum);
@@ -142,17 +138,11 @@ module _ {ws d : List ℕ} {rows count row width : ℕ} {fill : Fill} (hrow : ro
         };
       }
         where
-          fits : 0 + width ≤ length d'
-          fits = omega arith
-
-          p : CellSwept ws (rows + 4 * (next - 1)) d' (put_mid 0 width d' ys) at (here - per_row * row) cover fill r
-          p = cell_back fits len (omega arith) hw cell
-
           at_here : per_row * row + (here - per_row * row + 1) ≡ here + 1
           at_here = omega arith
 
           go : (log : List Deposit) → Holds ws rows width count log → (x : ℕ) → x + 1 < here - per_row * row + 1 → Dec (x + 1 < at) → Dec (x + 1 ≡ here - per_row * row)
-              → get_or (put_mid 0 width d' ys) x 0 ≡ pixel fill log row x
+              → get_or d'' x 0 ≡ pixel fill log row x
           go log P x h (yes g) k = p.before x g ∙ (s.so log P).done x g
           go log P x h (no g) (yes k) = p.here x k ∙ pixel-cell log P from p.sum x k
           go log P x h (no g) (no k) =

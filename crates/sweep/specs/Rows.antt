@@ -25,14 +25,10 @@ pub record Painted (d d' : List ℕ) (low high b : ℕ) : Type 0 where
   pub before : (x : ℕ) → x + 1 < low → slice_index d' x ≡ slice_index d x
   pub behind : (x : ℕ) → high ≤ x + 1 → slice_index d' x ≡ slice_index d x
 
--- the same, but for the columns from high on, which may have changed: they are painted later
-pub record PaintedOver (d d' : List ℕ) (low high b : ℕ) : Type 0 where
-  pub inside : (x : ℕ) → low ≤ x + 1 → x + 1 < high → slice_index d' x ≡ b
-  pub before : (x : ℕ) → x + 1 < low → slice_index d' x ≡ slice_index d x
-
--- the columns from low up to the cell's have the byte of the cover before it, and the cell's has its own; those behind it may have changed; the cover is summed
+-- the columns from low up to the cell's have the byte of the cover before it, and the cell's has its own; the cover is summed
 pub record CellSwept (words : List ℕ) (at : ℕ) (d d' : List ℕ) (low column cover : ℕ) (fill : Fill) (r : ℕ) : Type 0 where
   pub sum : r ≡ (cover + slice_index words (at + 1)) % 2 ^ 32
   pub before : (x : ℕ) → x + 1 < low → slice_index d' x ≡ slice_index d x
   pub inside : (x : ℕ) → low ≤ x + 1 → x + 1 < column → slice_index d' x ≡ byte_of fill (signed ((512 * cover) % 2 ^ 32))
   pub here : (x : ℕ) → x + 1 ≡ column → slice_index d' x ≡ byte_of fill (signed ((512 * r + (2 ^ 32 - slice_index words (at + 2))) % 2 ^ 32))
+  pub behind : (x : ℕ) → column < x + 1 → slice_index d' x ≡ slice_index d x

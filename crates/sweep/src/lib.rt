@@ -2,7 +2,7 @@
 // Each function stays inside the words and the mask it is lent and ends, whatever they hold.
 ghost use Rattle.std.specs.Prelude.{◌≡◌, ◌+◌, ◌-◌, ◌*◌, ◌%◌, ◌^◌, ◌<◌, ◌≤◌, min, length};
 ghost use Rattle.sweep.specs.Pixels.{signed, byte_of};
-ghost use Rattle.sweep.specs.Rows.{Painted, PaintedOver, CellSwept, RowFits, RowSwept};
+ghost use Rattle.sweep.specs.Rows.{Painted, CellSwept, RowFits, RowSwept};
 ghost use Rattle.sweep.specs.Masks.{Fits, Swept};
 
 // Which pixels are inside.
@@ -90,46 +90,7 @@ fn paint(out: &mut [u8], low: usize, high: usize, b: u8)
     }
 }
 
-// The bytes of a block.
-const BLOCK: usize = 32;
-
-// A block of one byte from an index on. Its count is fixed, so that the compiler makes two vector stores of the loop, where a loop over a short run alone
-// is a call of memset.
-fn block(out: &mut [u8], from: usize, b: u8)
-    requires { from + 32 ≤ length out.old }
-    ensures { Painted out.old out.new (from + 1) (from + 33) b }
-{
-    let mut i: usize = 0;
-    while i < BLOCK {
-        out[from + i] = b;
-        i += 1;
-    }
-}
-
-// One byte in the columns from low up to high. A short run is written as a block if the row has one there: a row is written to its end, so that what the
-// block has behind the run is written over.
-fn paint_run(out: &mut [u8], low: usize, high: usize, b: u8)
-    requires { (low ≤ high) × (high ≤ length out.old + 1) }
-    ensures { PaintedOver out.old out.new low high b }
-{
-    if 0 < low && high - low <= BLOCK && low - 1 + BLOCK <= out.len() {
-        block(out, low - 1, b);
-        return;
-    }
-    paint(out, low, high, b);
-}
-
-// The byte of one column: column 0, that is column -1, has none.
-fn set_pixel(out: &mut [u8], column: usize, b: u8)
-    requires { column ≤ length out.old }
-    ensures { Painted out.old out.new column (column + 1) b }
-{
-    if 0 < column {
-        out[column - 1] = b;
-    }
-}
-
-// Paints the columns from low up to a cell's, and the cell's; answers the cover with the cell's. The columns behind the cell's may change too.
+// Paints the columns from low up to a cell's, and the cell's; answers the cover with the cell's.
 fn sweep_cell(
     ws: &[u32],
     at: usize,
@@ -142,9 +103,9 @@ fn sweep_cell(
     requires { (at + 2 < length ws.now) × (low ≤ column) × (column ≤ length out.old) }
     ensures { CellSwept ws.now at out.old out.new low column cover fill result }
 {
-    paint_run(out, low, column, run_byte(fill, cover));
+    paint(out, low, column, run_byte(fill, cover));
     let sum = storage::sum(cover, ws[at + 1]);
-    set_pixel(out, column, cell_byte(fill, sum, ws[at + 2]));
+    paint(out, column, column + 1, cell_byte(fill, sum, ws[at + 2]));
     sum
 }
 
@@ -178,8 +139,7 @@ fn sweep_row(
         if width < column {
             return;
         }
-        // No block may pass the row's own bytes.
-        cover = sweep_cell(ws, at, low, column, cover, fill, &mut out[..width]);
+        cover = sweep_cell(ws, at, low, column, cover, fill, out);
         low = column + 1;
         next = storage::next_in(ws[at + 3]);
     }

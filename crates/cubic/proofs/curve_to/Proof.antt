@@ -12,7 +12,7 @@ returns : tie.Need-returns
 returns c =
     let s = c.before.before.before in
     let a = s.args in
-    rw (all_past a.f a.a a.c a.d a.b c.before.are-past.ensures c.if1.true) (drew-none _ _)
+    rw (all_past a.f a.a a.c a.d a.b c.before.are-past.ensures c.if1.true) (drew-none _ _ s.requires.1.0)
 
 are-ahead-requires : tie.Need-are-ahead-requires
 are-ahead-requires c κs = search rules
@@ -22,7 +22,7 @@ returns-2 c =
     let k = c.before.before.before in
     let s = k.before.before in
     let a = s.args in
-    rw (all-ahead a.f a.a a.c a.d a.b k.are-past.ensures c.before.are-ahead.ensures c.before.before.if1.false c.if2.true) (drew-none _ _)
+    rw (all-ahead a.f a.a a.c a.d a.b k.are-past.ensures c.before.are-ahead.ensures c.before.before.if1.false c.if2.true) (drew-none _ _ s.requires.1.0)
 
 flatten-requires : tie.Need-flatten-requires
 flatten-requires c κs = search rules

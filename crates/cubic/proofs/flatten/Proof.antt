@@ -35,7 +35,7 @@ array-set-from-arc-4 c = search rules
 loop-holds : tie.Need-loop-init invariant-loop decreases-loop
 loop-holds c =
     let p = c.before.requires in
-    going-started _ _ _ _ p.1.0 p.1.1.0 p.1.1.1.0 p.1.1.1.1 _ _ _ _
+    going-started _ _ _ _ p.1.1.0 p.1.1.1.0 p.1.1.1.1.0 p.1.1.1.1.1 _ _ _ _ p.1.0
 
 mul-t25 : tie.Need-overflow-mul-t25 invariant-loop decreases-loop
 mul-t25 c = search rules
@@ -82,7 +82,7 @@ line-to-requires c κs =
     let s = c.before.before.before.before.before.before.before.before in
     let g = s.loop.invariant in
     let p = s.before.before.requires in
-    (still-ready _ _ p.0 g.drew.added.same, (g.from_in, p.1.1.1.1))
+    (still-ready _ _ p.0 g.drew.added.same, (g.drew.within, (g.from_in, p.1.1.1.1.1)))
 
 same_length : tie.Need-same-length invariant-loop decreases-loop
 same_length c = search rules
@@ -199,7 +199,7 @@ line-to-requires-2 c κs =
     let s = c.before.before.before.before.before.before.before.before in
     let g = s.loop.invariant in
     let p = s.before.before.requires in
-    (still-ready _ _ p.0 g.drew.added.same, (g.from_in, g.standing.reach.at s.loop.top (omega arith)))
+    (still-ready _ _ p.0 g.drew.added.same, (g.drew.within, (g.from_in, g.standing.reach.at s.loop.top (omega arith))))
 
 same-length-2 : tie.Need-same-length-2 invariant-loop decreases-loop
 same-length-2 c = search rules

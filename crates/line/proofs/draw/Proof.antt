@@ -15,7 +15,7 @@ skipped-requires c κs = search rules
 returns : tie.Need-returns
 returns c =
     let a = c.before.before.before in
-    drew_as (sym (marks-skipped a.args.f a.args.l (sym c.before.skipped.ensures ∙ c.if1.true))) (drew-none _ _)
+    drew_as (sym (marks-skipped a.args.f a.args.l (sym c.before.skipped.ensures ∙ c.if1.true))) (drew-none _ _ a.requires.1.0)
 
 begin-requires : tie.Need-begin-requires
 begin-requires c κs = search rules
@@ -32,7 +32,7 @@ returns-2 c =
     let g = rw b.begin.ensures at c.give.ensures in
     drew_as
     (sym (marks-kept a.args.f a.args.l (sym k.before.skipped.ensures ∙ k.if1.false) ∙ marks-within a.args.l t.before.before.if2.true t.if3.true))
-    (drew-give _ _ _ _ g.0 g.1)
+    (drew-give _ _ _ _ a.requires.1.0 g.0 g.1)
 
 set-cell-requires : tie.Need-set-cell-requires
 set-cell-requires c κs = search rules

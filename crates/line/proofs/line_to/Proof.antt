@@ -10,7 +10,7 @@ ends-of-requires c κs = search rules
 draw-requires : tie.Need-draw-requires
 draw-requires c κs =
     let a = c.before.before.before in
-    (a.requires.0, rw c.ends_of.ensures (reach_bounded a.requires.1.0 a.requires.1.1))
+    (a.requires.0, (a.requires.1.0, rw c.ends_of.ensures (reach_bounded a.requires.1.1.0 a.requires.1.1.1)))
 
 same_length : tie.Need-same-length
 same_length c = search rules

@@ -31,10 +31,10 @@ loop-holds c =
     let e = c.begin.ensures in
     record {
       point = rw e (record { inx = omega arith; iny = omega arith });
-      few = rw e (let h = a.requires.1.by1 in omega arith);
+      few = rw e (let h = a.requires.1.1.by1 in omega arith);
       level = rw e (row_start a.args.l);
       done = [];
-      drew = drew-none _ _;
+      drew = drew-none _ _ a.requires.1.0;
       same = refl;
     }
 
@@ -50,7 +50,7 @@ cross-requires c κs =
     let o = c.before.before.before.before.before.before in
     let a = o.before.before.before.before in
     let l = a.args.l in
-    (still-ready _ _ a.requires.0 i.drew.added.same, (i.point, (i.point.inx, rw o.row-side.ensures (row_out (ltb l.y1 l.y2)))))
+    (still-ready _ _ a.requires.0 i.drew.added.same, (i.drew.within, (i.point, (i.point.inx, rw o.row-side.ensures (row_out (ltb l.y1 l.y2))))))
 
 loop-less : tie.Need-loop-smaller invariant-loop decreases-loop
 loop-less c =
@@ -74,7 +74,7 @@ loop-again c =
     rw e
     (record {
       point = row_point b h.at i.point;
-      few = row_few b h.at l a.requires.1.by2 i.few v;
+      few = row_few b h.at l a.requires.1.1.by2 i.few v;
       level = v;
       done = _;
       drew = drew-then _ _ i.drew (rw (e, o.row-side.ensures) at c.before.before.cross.ensures);
@@ -97,7 +97,7 @@ returns c =
     drew_as
     (drawn_all i.done i.same (upright_last l (ltb l.y1 l.y2) _ w.if1.false)
     ∙ ap (λ (a : At). upright (rows_to l a.row) (row_side l) l a) s.begin.ensures)
-    (drew-then _ _ i.drew (drew-give _ _ _ _ g.0 g.1))
+    (drew-then _ _ i.drew (drew-give _ _ _ _ i.drew.within g.0 g.1))
 
 pub vertical-spec : {M : Type 1} → statement M
 vertical-spec =

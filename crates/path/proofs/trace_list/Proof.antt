@@ -44,7 +44,7 @@ pool-at-requires : tie.Need-pool-at-requires invariant-loop decreases-loop
 pool-at-requires c κs = search rules
 
 same_length : tie.Need-same-length invariant-loop decreases-loop
-same_length c = let d = c.before.before.before in d.finish.ensures.same ∙ d.before.before.before.before.before.loop.invariant.0.same
+same_length c = let d = c.before.before.before in d.finish.ensures.1.same ∙ d.before.before.before.before.before.loop.invariant.0.same
 
 returns : tie.Need-returns invariant-loop decreases-loop
 returns c =
@@ -52,7 +52,7 @@ returns c =
     let m = d.before.before in
     let l = m.before.before.before.loop in
     rw c.pool-at.ensures
-    (traced _ _ _ _ _ _ _ l.track l.at l.n l.invariant.0 _ _ d.finish.ensures (sym m.before.before.step_at_is.ensures ∙ m.enum_told.given.1))
+    (traced _ _ _ _ _ _ _ l.track l.at l.n l.invariant.0 _ _ d.finish.ensures.0 d.finish.ensures.1 (sym m.before.before.step_at_is.ensures ∙ m.enum_told.given.1))
 
 enum-told-2 : tie.Need-enum-told-2 invariant-loop decreases-loop
 enum-told-2 c = search rules
@@ -64,7 +64,7 @@ pool-at-requires-2 : tie.Need-pool-at-requires-2 invariant-loop decreases-loop
 pool-at-requires-2 c κs = search rules
 
 same-length-2 : tie.Need-same-length-2 invariant-loop decreases-loop
-same-length-2 c = let d = c.before.before.before in d.finish2.ensures.same ∙ d.before.before.before.before.before.loop.invariant.0.same
+same-length-2 c = let d = c.before.before.before in d.finish2.ensures.1.same ∙ d.before.before.before.before.before.loop.invariant.0.same
 
 returns-2 : tie.Need-returns-2 invariant-loop decreases-loop
 returns-2 c =
@@ -72,7 +72,7 @@ returns-2 c =
     let m = d.before.before in
     let l = m.before.before.before.loop in
     rw c.pool-at2.ensures
-    (untraced _ _ _ _ _ _ _ l.track l.at l.n l.invariant.0 _ _ d.finish2.ensures _ (sym m.before.before.step_at_is.ensures ∙ m.enum-told2.given.1))
+    (untraced _ _ _ _ _ _ _ l.track l.at l.n l.invariant.0 _ _ d.finish2.ensures.0 d.finish2.ensures.1 _ (sym m.before.before.step_at_is.ensures ∙ m.enum-told2.given.1))
 
 enum-known-k : tie.Need-enum-known-k invariant-loop decreases-loop
 enum-known-k c = search rules
@@ -85,6 +85,9 @@ trace-requires c κs =
     let l = c.before.before.before.before.before.before.loop in
     (l.invariant.1, (l.invariant.0.sound, c.stroke-of.ensures.1))
 
+enum-told-3 : tie.Need-enum-told-3 invariant-loop decreases-loop
+enum-told-3 c = search rules
+
 same-length-3 : tie.Need-same-length-3 invariant-loop decreases-loop
 same-length-3 c =
     let d = c.before.before.before.before.before in
@@ -96,8 +99,11 @@ returns-3 c =
     let s = d.before in
     let k = s.before.before.before in
     let l = k.before.before.before.loop in
-    stops _ _ _ _ _ _ _ l.track l.at l.n l.invariant.0 _ _ (sym k.before.before.step_at_is.ensures ∙ k.k.given.1) _ _ (rw s.stroke-of.ensures.0 at d.trace.ensures)
-    c.if1.true
+    stops _ _ _ _ _ _ _ l.track l.at l.n l.invariant.0 _ _ (sym k.before.before.step_at_is.ensures ∙ k.k.given.1) _ _ (rw s.stroke-of.ensures.0 at d.trace.ensures) _ refl
+    c.enum-told3.given.1
+
+enum-told-4 : tie.Need-enum-told-4 invariant-loop decreases-loop
+enum-told-4 c = search rules
 
 add-n : tie.Need-overflow-add-n invariant-loop decreases-loop
 add-n c =
@@ -119,7 +125,7 @@ loop-again c =
     let k = s.before.before.before in
     let l = k.before.before.before.loop in
     let e = s.stroke-of.ensures.0 in (
-      goes_on _ _ _ _ _ _ _ l.track l.at l.n l.invariant.0 _ _ (sym k.before.before.step_at_is.ensures ∙ k.k.given.1) _ _ (rw e at d.trace.ensures) c.if1.false
+      goes_on _ _ _ _ _ _ _ l.track l.at l.n l.invariant.0 _ _ (sym k.before.before.step_at_is.ensures ∙ k.k.given.1) _ _ (rw e at d.trace.ensures) _ refl _ c.enum-told4.given.1
           (rw e at s.stroke-of.ensures.1),
       still-ready _ _ l.invariant.1 d.trace.ensures.drew.added.same,
     )
@@ -146,8 +152,10 @@ trace-list-spec =
     enum-known-k
     stroke-of-requires
     trace-requires
+    enum-told-3
     same-length-3
     returns-3
+    enum-told-4
     add-n
     loop-less
     loop-again)

@@ -11,7 +11,7 @@ use Rattle.pen.proofs.set.Reads as set_Reads
 returns : tie.Need-returns
 returns c =
     let a = c.before.before.before in
-    rw (up-last a.args.pen c.if1.true) (none-added _ _ _ _)
+    (a.requires.1, rw (up-last a.args.pen c.if1.true) (none-added _ _ _ _))
 
 set-requires : tie.Need-set-requires
 set-requires c κs = search rules
@@ -21,7 +21,7 @@ same_length c = search rules
 
 returns-2 : tie.Need-returns-2
 returns-2 c = let a = c.before.before.before.before.before.before.before in
-    rw (down-last a.args.pen c.before.before.before.before.if1.false) c.before.before.set.ensures
+    (c.before.before.set.ensures.0, rw (down-last a.args.pen c.before.before.before.before.if1.false) c.before.before.set.ensures.1)
 
 pub finish_spec : {M : Type 1} → statement M
 finish_spec = tie.close (tie.spec returns set-requires same_length returns-2)

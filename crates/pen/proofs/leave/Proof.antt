@@ -11,12 +11,12 @@ use Rattle.pen.proofs.set.Reads as set_Reads
 returns : tie.Need-returns
 returns c =
     let a = c.before.before.before in
-    rw (up-leaves a.args.pen c.if1.true) (none-added _ _ _ _)
+    (a.requires.1, rw (up-leaves a.args.pen c.if1.true) (none-added _ _ _ _))
 
 returns-2 : tie.Need-returns-2
 returns-2 c =
     let a = c.before.before.before.before.before.before.before in
-    rw (zero-leaves a.args.pen c.before.before.before.before.if1.false c.before.before.if2.true c.if3.true) (none-added _ _ _ _)
+    (a.requires.1, rw (zero-leaves a.args.pen c.before.before.before.before.if1.false c.before.before.if2.true c.if3.true) (none-added _ _ _ _))
 
 set-requires : tie.Need-set-requires
 set-requires c κs = search rules
@@ -29,11 +29,13 @@ returns-3 c =
     let s = c.before.before in
     let g = s.before.before in
     let a = g.before.before.before.before.before in
-    let d = g.before.before.if1.false in
-    ⊎_elim
-    (λ w. rw (area-leaves a.args.pen d w.0.taken w.2.left) s.set.ensures)
-    (λ w. rw (cover-leaves a.args.pen d w.left) s.set.ensures)
-    g.if2.branch
+    let d = g.before.before.if1.false in (
+      s.set.ensures.0,
+      ⊎_elim
+          (λ w. rw (area-leaves a.args.pen d w.0.taken w.2.left) s.set.ensures.1)
+          (λ w. rw (cover-leaves a.args.pen d w.left) s.set.ensures.1)
+          g.if2.branch,
+    )
 
 pub leave_spec : {M : Type 1} → statement M
 leave_spec = tie.close (tie.spec returns returns-2 set-requires same_length returns-3)

@@ -18,7 +18,7 @@ returns : tie.Need-returns
 unfolding after
 returns c =
     let s = c.before.before in
-    record { stands = refl; added = rw (left_enter _ _ _) s.leave.ensures }
+    record { within = s.leave.ensures.0; stands = refl; added = rw (left_enter _ _ _) s.leave.ensures.1 }
 
 pub set-cell-spec : {M : Type 1} → statement M
 set-cell-spec = tie.close (tie.spec leave-requires same_length returns)

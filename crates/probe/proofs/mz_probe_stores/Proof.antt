@@ -1,6 +1,5 @@
 -- The heads are cleared, so that the pool has no cells; then the pairs are stored, and a pool that is full is wiped.
 use borrow.Author.Rules.{rules}
-use Rattle.storage.proofs.Stores.{kept_cells, kept_full}
 use Rattle.probe.proofs.Runs.{too_many_rows, too-few-words, all-stored, too-many-places}
 use Rattle.probe.proofs.mz_probe_stores.Statement.{statement}
 use Rattle.probe.proofs.mz_probe_stores.Tie as tie
@@ -26,6 +25,12 @@ clear-requires c κs = search rules
 store-pairs-requires : tie.Need-store-pairs-requires
 store-pairs-requires c κs = search rules
 
+enum-known-n : tie.Need-enum-known-n
+enum-known-n c = search rules
+
+enum_told : tie.Need-enum-told
+enum_told c = search rules
+
 wipe-requires : tie.Need-wipe-requires
 wipe-requires c κs = search rules
 
@@ -34,22 +39,22 @@ same_length c = search rules
 
 returns-3 : tie.Need-returns-3
 returns-3 c =
-    let w = c.before.before in
-    let t = w.before.before in
-    let s = t.before.before.before in
+    let s = c.before.before.before.before.before in
     let k = s.before.before.before.before in
     let p = k.before.before in
-    too-many-places _ _ _ p.before.before.if1.false p.before.if2.false p.pool-of.ensures k.clear.ensures s.store-pairs.ensures (kept_full _ _ t.if3.true) w.wipe.ensures
+    all-stored _ _ _ p.before.before.if1.false p.before.if2.false p.pool-of.ensures k.clear.ensures s.store-pairs.ensures _ c.before.n.given.1
 
 same-length-2 : tie.Need-same-length-2
 same-length-2 c = search rules
 
 returns-4 : tie.Need-returns-4
 returns-4 c =
-    let s = c.before.before.before in
+    let w = c.before.before in
+    let t = w.before.before in
+    let s = t.before.before.before.before in
     let k = s.before.before.before.before in
     let p = k.before.before in
-    all-stored _ _ _ p.before.before.if1.false p.before.if2.false p.pool-of.ensures k.clear.ensures s.store-pairs.ensures _ (kept_cells _ _ c.if3.false)
+    too-many-places _ _ _ p.before.before.if1.false p.before.if2.false p.pool-of.ensures k.clear.ensures s.store-pairs.ensures t.enum_told.given.1 w.wipe.ensures
 
 pub mz-probe-stores-spec : {M : Type 1} → statement M
 mz-probe-stores-spec =
@@ -60,6 +65,8 @@ mz-probe-stores-spec =
     pool-of-requires
     clear-requires
     store-pairs-requires
+    enum-known-n
+    enum_told
     wipe-requires
     same_length
     returns-3

@@ -55,17 +55,8 @@ store-pair-requires c κs =
     let l = c.before.before.before.before.before.before in
     room _ _ _ _ l.loop.invariant l.before.before.before.requires
 
-same_length : tie.Need-same-length invariant-loop decreases-loop
-same_length c =
-    let s = c.before.before.before in
-    s.store_pair.ensures.long ∙ s.before.before.before.before.before.before.before.loop.invariant.held.long
-
-returns : tie.Need-returns invariant-loop decreases-loop
-returns c =
-    let s = c.before.before.before in
-    let w = s.before.before.before.before in
-    let t = w.before.before in
-    full _ _ _ _ t.before.loop.invariant _ t.loop-test.true (rw (w.word2.ensures, w.before.word.ensures) at s.store_pair.ensures) c.if1.true
+enum-known-n : tie.Need-enum-known-n invariant-loop decreases-loop
+enum-known-n c = search rules
 
 add_at : tie.Need-overflow-add-at invariant-loop decreases-loop
 add_at c = search rules
@@ -75,10 +66,26 @@ loop-less c = search rules
 
 loop-again : tie.Need-loop-preserved invariant-loop decreases-loop
 loop-again c =
-    let s = c.before.before.before in
+    let n = c.before in
+    let s = n.before.before.before.before in
     let w = s.before.before.before.before in
     let t = w.before.before in
-    goes_on _ _ _ _ t.before.loop.invariant _ t.loop-test.true (rw (w.word2.ensures, w.before.word.ensures) at s.store_pair.ensures) c.if1.false
+    goes_on _ _ _ _ t.before.loop.invariant t.loop-test.true (rw (w.word2.ensures, w.before.word.ensures) at s.store_pair.ensures) _ n.n.given.1
+
+enum_told : tie.Need-enum-told invariant-loop decreases-loop
+enum_told c = search rules
+
+same_length : tie.Need-same-length invariant-loop decreases-loop
+same_length c =
+    let s = c.before.before.before.before in
+    s.store_pair.ensures.long ∙ s.before.before.before.before.before.before.before.loop.invariant.held.long
+
+returns : tie.Need-returns invariant-loop decreases-loop
+returns c =
+    let s = c.before.before.before.before in
+    let w = s.before.before.before.before in
+    let t = w.before.before in
+    full _ _ _ _ t.before.loop.invariant t.loop-test.true (rw (w.word2.ensures, w.before.word.ensures) at s.store_pair.ensures) c.enum_told.given.1
 
 same-length-2 : tie.Need-same-length-2 invariant-loop decreases-loop
 same-length-2 c = c.before.loop.invariant.held.long
@@ -104,10 +111,12 @@ store-pairs-spec =
     mul-area
     shared-slice-read-area
     store-pair-requires
-    same_length
-    returns
+    enum-known-n
     add_at
     loop-less
     loop-again
+    enum_told
+    same_length
+    returns
     same-length-2
     returns-2)

@@ -1,12 +1,11 @@
 -- While the loop runs, the marks made and the marks of the lines to the points left on the stack are all the marks. The number of lines left falls, or `rest` is halved.
 use Prim.Native.Nat.{ℕ, ◌+◌, ◌*◌, ◌^◌}
-use mathlib.Core.Path.{refl, sym, ap, ◌∙◌}
+use mathlib.Core.Path.{sym, ap, ◌∙◌}
 use mathlib.Core.Logic.{⊎_elim}
 use native.Mathlib.Omega.{arith}
 use borrow.Author.Rules.{rules}
 use Rattle.pen.proofs.Adding.{drew-none, still-ready}
 use Rattle.quad.specs.Quads.{doublings}
-use Rattle.quad.specs.Stack.{halved}
 use Rattle.quad.proofs.Skipping.{past-marks, ahead-marks, drawn-marks}
 use Rattle.quad.proofs.Stack.{never-full, few-left, some_left, room, rest-less, popped}
 use Rattle.quad.proofs.Drawing.{all_marks, Going, going, halving, finished, onward}
@@ -31,7 +30,7 @@ returns c =
     let p = a.args in
     let e = c.before.all_past.ensures in
     rw (⊎_elim (λ w. past-marks p.f p.a p.c p.b (sym e ∙ w.taken)) (λ w. ahead-marks p.f p.a p.c p.b (sym e ∙ w.0.left) (sym w.1.ensures ∙ w.2.taken)) c.if1.branch)
-    (drew-none p.f p.cap)
+    (drew-none p.f p.cap a.requires.1.0)
 
 array-set-from-arc : tie.Need-array-set-from-arc invariant-loop decreases-loop
 array-set-from-arc c = search rules
@@ -51,95 +50,20 @@ lines-of-requires c κs = search rules
 loop-holds : tie.Need-loop-init invariant-loop decreases-loop
 loop-holds c =
     let a = c.before.before.before.before.before.before.before in
-    let r = a.requires.1 in
-    going _ _ _ _ a.args.a a.args.c a.args.b _ r.0 r.1.0 r.1.1 (c.lines_of.ensures ∙ ap (λ (d : ℕ). 2 ^ doublings 16 d) c.before.bend-of.ensures)
+    let r = a.requires.1.1 in
+    going _ _ _ _ a.args.a a.args.c a.args.b _ a.requires.1.0 r.0 r.1.0 r.1.1 (c.lines_of.ensures ∙ ap (λ (d : ℕ). 2 ^ doublings 16 d) c.before.bend-of.ensures)
 
-mul-arc : tie.Need-overflow-mul-arc invariant-loop decreases-loop
-mul-arc c = omega (arith, room c.before.loop.invariant.stack c.if3.true)
-
-array-copy-out-arc : tie.Need-array-copy-out-arc invariant-loop decreases-loop
-array-copy-out-arc c = omega (arith, room c.before.loop.invariant.stack c.if3.true)
-
-add-t33 : tie.Need-overflow-add-t33 invariant-loop decreases-loop
-add-t33 c = omega (arith, room c.before.before.loop.invariant.stack c.before.if3.true)
-
-mul-t34 : tie.Need-overflow-mul-t34 invariant-loop decreases-loop
-mul-t34 c = omega (arith, room c.before.before.loop.invariant.stack c.before.if3.true)
-
-array-copy-out-t37 : tie.Need-array-copy-out-t37 invariant-loop decreases-loop
-array-copy-out-t37 c = omega (arith, room c.before.before.loop.invariant.stack c.before.if3.true)
-
-add-arc : tie.Need-overflow-add-arc invariant-loop decreases-loop
-add-arc c = omega (arith, room c.before.before.before.loop.invariant.stack c.before.before.if3.true)
-
-mul-arc-2 : tie.Need-overflow-mul-arc-2 invariant-loop decreases-loop
-mul-arc-2 c = omega (arith, room c.before.before.before.loop.invariant.stack c.before.before.if3.true)
-
-array-copy-out-arc-2 : tie.Need-array-copy-out-arc-2 invariant-loop decreases-loop
-array-copy-out-arc-2 c = omega (arith, room c.before.before.before.loop.invariant.stack c.before.before.if3.true)
-
-split-quad-requires : tie.Need-split-quad-requires invariant-loop decreases-loop
-split-quad-requires c κs = search rules
-
-array-copy-out-arc-3 : tie.Need-array-copy-out-arc-3 invariant-loop decreases-loop
-array-copy-out-arc-3 c = search rules
-
-add-arc-2 : tie.Need-overflow-add-arc-2 invariant-loop decreases-loop
-add-arc-2 c = omega (arith, room c.before.before.before.before.before.before.loop.invariant.stack c.before.before.before.before.before.if3.true)
-
-mul-arc-3 : tie.Need-overflow-mul-arc-3 invariant-loop decreases-loop
-mul-arc-3 c = omega (arith, room c.before.before.before.before.before.before.loop.invariant.stack c.before.before.before.before.before.if3.true)
-
-array-set-from-arc-4 : tie.Need-array-set-from-arc-4 invariant-loop decreases-loop
-array-set-from-arc-4 c = omega (arith, room c.before.before.before.before.before.before.loop.invariant.stack c.before.before.before.before.before.if3.true)
-
-array-copy-out-arc-4 : tie.Need-array-copy-out-arc-4 invariant-loop decreases-loop
-array-copy-out-arc-4 c = search rules
-
-add-arc-3 : tie.Need-overflow-add-arc-3 invariant-loop decreases-loop
-add-arc-3 c = omega (arith, room c.before.before.before.before.before.before.before.loop.invariant.stack c.before.before.before.before.before.before.if3.true)
-
-mul-arc-4 : tie.Need-overflow-mul-arc-4 invariant-loop decreases-loop
-mul-arc-4 c = omega (arith, room c.before.before.before.before.before.before.before.loop.invariant.stack c.before.before.before.before.before.before.if3.true)
-
-array-set-from-arc-5 : tie.Need-array-set-from-arc-5 invariant-loop decreases-loop
-array-set-from-arc-5 c = omega (arith, room c.before.before.before.before.before.before.before.loop.invariant.stack c.before.before.before.before.before.before.if3.true)
-
-array-copy-out-arc-5 : tie.Need-array-copy-out-arc-5 invariant-loop decreases-loop
-array-copy-out-arc-5 c = search rules
-
-add-arc-4 : tie.Need-overflow-add-arc-4 invariant-loop decreases-loop
-add-arc-4 c = omega (arith, room c.before.before.before.before.before.before.before.before.loop.invariant.stack c.before.before.before.before.before.before.before.if3.true)
-
-mul-arc-5 : tie.Need-overflow-mul-arc-5 invariant-loop decreases-loop
-mul-arc-5 c = omega (arith, room c.before.before.before.before.before.before.before.before.loop.invariant.stack c.before.before.before.before.before.before.before.if3.true)
-
-array-set-from-arc-6 : tie.Need-array-set-from-arc-6 invariant-loop decreases-loop
-array-set-from-arc-6 c = omega (arith, room c.before.before.before.before.before.before.before.before.loop.invariant.stack c.before.before.before.before.before.before.before.if3.true)
-
-array-copy-out-arc-6 : tie.Need-array-copy-out-arc-6 invariant-loop decreases-loop
-array-copy-out-arc-6 c = search rules
-
-add-arc-5 : tie.Need-overflow-add-arc-5 invariant-loop decreases-loop
-add-arc-5 c = omega (arith, room c.before.before.before.before.before.before.before.before.before.loop.invariant.stack c.before.before.before.before.before.before.before.before.if3.true)
-
-mul-arc-6 : tie.Need-overflow-mul-arc-6 invariant-loop decreases-loop
-mul-arc-6 c = omega (arith, room c.before.before.before.before.before.before.before.before.before.loop.invariant.stack c.before.before.before.before.before.before.before.before.if3.true)
-
-array-set-from-arc-7 : tie.Need-array-set-from-arc-7 invariant-loop decreases-loop
-array-set-from-arc-7 c = omega (arith, room c.before.before.before.before.before.before.before.before.before.loop.invariant.stack c.before.before.before.before.before.before.before.before.if3.true)
+halve-requires : tie.Need-halve-requires invariant-loop decreases-loop
+halve-requires c κs = omega (arith, room c.before.loop.invariant.stack c.if3.true)
 
 add-top : tie.Need-overflow-add-top invariant-loop decreases-loop
-add-top c = omega (arith, room c.before.before.before.before.before.before.before.before.before.loop.invariant.stack c.before.before.before.before.before.before.before.before.if3.true)
+add-top c = omega (arith, room c.before.before.loop.invariant.stack c.before.if3.true)
 
 loop-less : tie.Need-loop-smaller invariant-loop decreases-loop
-loop-less c = omega (arith, rest-less c.before.before.before.before.before.before.before.before.before.loop.invariant.stack c.before.before.before.before.before.before.before.before.if3.true)
+loop-less c = omega (arith, rest-less c.before.before.loop.invariant.stack c.before.if3.true)
 
 loop-again : tie.Need-loop-preserved invariant-loop decreases-loop
-unfolding halved
-loop-again c =
-    let i = c.before.before.before.before.before.before.before.before in
-    halving i.before.loop.invariant i.if3.true (rw c.before.before.before.before.split_quad_is.ensures refl)
+loop-again c = halving c.before.before.loop.invariant c.before.if3.true c.halve.ensures
 
 mul-to : tie.Need-overflow-mul-to invariant-loop decreases-loop
 mul-to c = omega (arith, never-full c.before.loop.invariant.stack)
@@ -151,7 +75,7 @@ line-to-requires : tie.Need-line-to-requires invariant-loop decreases-loop
 line-to-requires c κs =
     let s = c.before.before.before.loop in
     let a = c.before.before.before.before.before.before.before.before.before.before.before in
-    (still-ready _ _ a.requires.0 s.invariant.drew.added.same, (s.invariant.from_in, s.invariant.stack.reach.at s.top (omega arith)))
+    (still-ready _ _ a.requires.0 s.invariant.drew.added.same, (s.invariant.drew.within, (s.invariant.from_in, s.invariant.stack.reach.at s.top (omega arith))))
 
 sub-draw : tie.Need-overflow-sub-draw invariant-loop decreases-loop
 sub-draw c = omega (arith, some_left c.before.before.before.before.before.before.loop.invariant.stack)
@@ -202,31 +126,7 @@ quad-to-spec =
     bend-of-requires
     lines-of-requires
     loop-holds
-    mul-arc
-    array-copy-out-arc
-    add-t33
-    mul-t34
-    array-copy-out-t37
-    add-arc
-    mul-arc-2
-    array-copy-out-arc-2
-    split-quad-requires
-    array-copy-out-arc-3
-    add-arc-2
-    mul-arc-3
-    array-set-from-arc-4
-    array-copy-out-arc-4
-    add-arc-3
-    mul-arc-4
-    array-set-from-arc-5
-    array-copy-out-arc-5
-    add-arc-4
-    mul-arc-5
-    array-set-from-arc-6
-    array-copy-out-arc-6
-    add-arc-5
-    mul-arc-6
-    array-set-from-arc-7
+    halve-requires
     add-top
     loop-less
     loop-again

@@ -21,7 +21,7 @@ returns : tie.Need-returns
 returns c =
     let s = c.before.before in
     let l = s.before.before.before.before in
-    added_then _ _ l.line_to.ensures.added (rw l.line_to.ensures.stands at s.finish.ensures)
+    (s.finish.ensures.0, added_then _ _ l.line_to.ensures.added (rw l.line_to.ensures.stands at s.finish.ensures.1))
 
 pub finish_spec : {M : Type 1} → statement M
 finish_spec = tie.close (tie.spec line-to-requires finish-requires same_length returns)

@@ -25,7 +25,7 @@ line-to-requires c κs =
     let k = c.before.before in
     let a = k.before.before.before.before.before in
     let h = told_reach (Line _) k.s2.given.1 a.requires.1.1 in
-    (a.requires.0, (a.requires.1.0.near, h))
+    (a.requires.0, (a.requires.1.0.within, (a.requires.1.0.near, h)))
 
 enum-known-s-3 : tie.Need-enum-known-s-3
 enum-known-s-3 c = search rules
@@ -35,7 +35,7 @@ quad-to-requires c κs =
     let k = c.before.before in
     let a = k.before.before.before.before.before in
     let h = told_reach (Quad _ _) k.s3.given.1 a.requires.1.1 in
-    (a.requires.0, (a.requires.1.0.near, (h.0, h.1)))
+    (a.requires.0, (a.requires.1.0.within, (a.requires.1.0.near, (h.0, h.1))))
 
 enum-known-s-4 : tie.Need-enum-known-s-4
 enum-known-s-4 c = search rules
@@ -45,7 +45,7 @@ curve-to-requires c κs =
     let k = c.before.before in
     let a = k.before.before.before.before.before in
     let h = told_reach (Cubic _ _ _) k.s4.given.1 a.requires.1.1 in
-    (a.requires.0, (a.requires.1.0.near, (h.0, (h.1, h.2))))
+    (a.requires.0, (a.requires.1.0.within, (a.requires.1.0.near, (h.0, (h.1, h.2)))))
 
 enum_told : tie.Need-enum-told
 enum_told c = search rules

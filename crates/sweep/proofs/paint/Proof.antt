@@ -34,7 +34,7 @@ loop-again : tie.Need-loop-preserved invariant-loop decreases-loop
 loop-again c =
     let l = c.before.before in
     let a = l.before.before.args in
-    painting_more a.out.now l.loop.out a.low a.high l.loop.i (l.loop.i - 1) a.b (omega arith) l.before.before.requires c.before.loop-test.true l.loop.invariant
+    painting_more a.out.now l.loop.out a.low a.high l.loop.i a.b l.before.before.requires c.before.loop-test.true l.loop.invariant
 
 same_length : tie.Need-same-length invariant-loop decreases-loop
 same_length c = omega arith

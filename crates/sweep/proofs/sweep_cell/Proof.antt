@@ -7,8 +7,8 @@ use Rattle.sweep.proofs.sweep_cell.Tie as tie
 run-byte-requires : tie.Need-run-byte-requires
 run-byte-requires c κs = search rules
 
-paint-run-requires : tie.Need-paint-run-requires
-paint-run-requires c κs = search rules
+paint-requires : tie.Need-paint-requires
+paint-requires c κs = search rules
 
 add-sum : tie.Need-overflow-add-sum
 add-sum c = search rules
@@ -22,6 +22,9 @@ shared-slice-read-sum c = search rules
 sum-requires : tie.Need-sum-requires
 sum-requires c κs = search rules
 
+add-paint : tie.Need-overflow-add-paint
+add-paint c = search rules
+
 add-cell-byte : tie.Need-overflow-add-cell-byte
 add-cell-byte c = search rules
 
@@ -34,34 +37,34 @@ shared-slice-read-cell-byte c = search rules
 cell-byte-requires : tie.Need-cell-byte-requires
 cell-byte-requires c κs = search rules
 
-set-pixel-requires : tie.Need-set-pixel-requires
-set-pixel-requires c κs = search rules
+paint-requires-2 : tie.Need-paint-requires-2
+paint-requires-2 c κs = search rules
 
 same_length : tie.Need-same-length
 same_length c = search rules
 
 returns : tie.Need-returns
 returns c =
-    let q = c.before.before in
-    let w = q.before.before.before.before in
+    let w = c.before.before.before.before.before.before in
     let p = w.before.before.before.before in
     let st = p.before.before.before.before.before in
-    cell_swept st.requires.1 w.sum.ensures p.paint-run.ensures p.before.run-byte.ensures q.set-pixel.ensures q.before.cell-byte.ensures
+    cell_swept st.requires.1 w.sum.ensures p.paint.ensures p.before.run-byte.ensures c.before.before.paint2.ensures c.before.before.before.cell-byte.ensures
 
 pub sweep-cell-spec : {M : Type 1} → statement M
 sweep-cell-spec =
     tie.close
     (tie.spec
     run-byte-requires
-    paint-run-requires
+    paint-requires
     add-sum
     mul-sum
     shared-slice-read-sum
     sum-requires
+    add-paint
     add-cell-byte
     mul-cell-byte
     shared-slice-read-cell-byte
     cell-byte-requires
-    set-pixel-requires
+    paint-requires-2
     same_length
     returns)

@@ -1,5 +1,5 @@
 -- `sweep::sweep_row` meets its contract, by the laws of the sweep. The walk ends since the column that it has come to rises, up to the width.
-use Rattle.std.proofs.Common.{◌≡◌, ◌+◌, ◌-◌, length, take, sym, ◌∙◌, arith, length-take-le}
+use Rattle.std.proofs.Common.{◌+◌, ◌-◌, ◌∙◌, arith}
 use Rattle.sweep.proofs.Sweeps.{Sweep, begin, far, back, outside, more, finish}
 use Rattle.sweep.proofs.sweep_row.Statement.{statement}
 use Rattle.sweep.proofs.sweep_row.Tie as tie
@@ -72,22 +72,8 @@ returns-3 c =
     let st = l.before.before.before.before.before in
     record { painted = λ log P x h. absurd (outside st.requires.inside l.loop.invariant n.before.before.loop-test.true n.word.ensures c.if3.true log P); kept = l.loop.invariant.behind }
 
-slice-relend-prefix-sweep-cell : tie.Need-slice-relend-prefix-sweep-cell invariant-loop decreases-loop
-slice-relend-prefix-sweep-cell c = omega arith
-
--- the row's own bytes are as many as its pixels
-lent : (c : tie.After-sweep-cell-arg invariant-loop decreases-loop)
-    → let w = c.before.before.before.before.before.before.before.before.before.before.before.args.width in
-    length (take w c.before.before.before.before.before.before.loop.out) ≡ w
-lent c =
-    let l = c.before.before.before.before.before.before in
-    length-take-le l.before.before.before.before.before.args.width l.loop.out (omega arith)
-
-slice-aggregate-sweep-cell : tie.Need-slice-aggregate-sweep-cell invariant-loop decreases-loop
-slice-aggregate-sweep-cell c = sym (lent c)
-
 sweep-cell-requires : tie.Need-sweep-cell-requires invariant-loop decreases-loop
-sweep-cell-requires c κs = omega (arith, lent c)
+sweep-cell-requires c κs = omega arith
 
 add_low : tie.Need-overflow-add-low invariant-loop decreases-loop
 add_low c = omega arith
@@ -114,8 +100,8 @@ loop-again c =
     let l = n.before.before.before in
     let st = l.before.before.before.before.before in
     more st.requires.inside l.loop.invariant n.before.before.loop-test.true n.word.ensures
-    w.before.before.before.if2.false w.before.before.if3.false (omega arith) (omega (arith, w.sweep-cell.auto, lent w.before))
-    w.sweep-cell.ensures c.next-in2.ensures
+    w.before.before.before.if2.false w.before.before.if3.false
+    w.sweep-cell.ensures (omega (arith, w.sweep-cell.auto)) c.next-in2.ensures
 
 add-paint : tie.Need-overflow-add-paint invariant-loop decreases-loop
 add-paint c = omega arith
@@ -163,8 +149,6 @@ sweep-row-spec =
     sub-column
     same-length-3
     returns-3
-    slice-relend-prefix-sweep-cell
-    slice-aggregate-sweep-cell
     sweep-cell-requires
     add_low
     add-next-in
