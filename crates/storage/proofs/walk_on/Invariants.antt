@@ -1,0 +1,12 @@
+-- `storage::walk_on` meets its contract, by the laws of the walk. The walk ends since the place it has come to rises, up to the one that is sought.
+use Rattle.std.proofs.Common.{ℕ, ◌+◌, ◌-◌, ◌<◌, length, get_or, ap, ◌∙◌, arith}
+use Rattle.storage.specs.Cells.{place_at, next_in}
+use Rattle.storage.proofs.Words.{link_word_lt}
+use Rattle.storage.proofs.Walk.{Walk, named_le, begin, far, done, past, back, go_on}
+use Rattle.storage.proofs.walk_on.Given as goal
+
+abbrev pub invariant-loop-next : goal.invariant-loop-next
+invariant-loop-next l = Walk l.ws l.rows l.count l.row l.place l.last l.low l.next
+
+abbrev pub decreases-loop-next : goal.decreases-loop-next
+decreases-loop-next l = l.place + 1 - l.low
