@@ -13,7 +13,6 @@ use lib.Ieee.Fits.{down_pos}
 use lib.Ieee.Bits.{of_bits-to_bits}
 use lib.Ieee.Exact.{HasValue, odd_sign}
 use lib.Ieee.Nearest.{div_same}
-use borrow.Author.Rules.{zero≤}
 use borrow.Author.Tests.{lt-ltb, le-ltb, ne_eqb, eqb-true, eqb-false}
 use Rattle.float.proofs.Fractions.{same_rest}
 use Rattle.float.specs.declared.Cut.TheVariants.{Near, Far}
@@ -68,7 +67,7 @@ high s b (suc x) t h k = go (eqb (suc x) 255) refl
         ((le-div_iff_mul-le (pow_pos 149)).1 (le_trans (mul-le-mul_left (2 ^ 23) (pow_mono z)) (mul-le-mul_right (2 ^ x) (le-add_right (2 ^ 23) t))))
 
 none : (num den : ℕ) → num < den → num / den ≡ 0
-none num den h = let w : num / den < 1 = (div-lt_iff_lt-mul (lt_of_le_of_lt zero≤ h)).1 (lt_of_lt_of_le h (le_of_eq (sym (one-mul den)))) in omega arith
+none num den h = let w : num / den < 1 = (div-lt_iff_lt-mul (lt_of_le_of_lt (omega arith) h)).1 (lt_of_lt_of_le h (le_of_eq (sym (one-mul den)))) in omega arith
 
 below_one : (w : Float) (s b : Bool) (num : ℕ) → num < 2 ^ 149 → HasValue w s num (2 ^ 149) → sized_of w b ≡ Near b 0 (not (eqb num 0))
 below_one w s b num h v =

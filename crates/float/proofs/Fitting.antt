@@ -78,6 +78,6 @@ sized_within (fin s m e) b = picked b _ (m * up e / down e)
 pub near_small : (w : Float) (x : Cut) (d b : Bool) (n : ℕ) (r : Bool) → x ≡ sized_of w d → x ≡ Near b n r → n < 2 ^ 24
 near_small w x d b n r p q = subst Within (sym p ∙ q) (sized_within w d)
 
-pub in_float : (n : ℕ) → n ≤ 2 ^ 24 → T (in_float binary32 (pos n))
+pub whole_in_float : (n : ℕ) → n ≤ 2 ^ 24 → T (in_float binary32 (pos n))
 unfolding in_float
-in_float n h = le→leb n (2 ^ 24) h
+whole_in_float n h = le→leb n (2 ^ 24) h

@@ -4,8 +4,7 @@ use mathlib.Core.Bool.{true, false}
 use lib.Dec.{T}
 use lib.Ieee.{Float, nan, inf, fin, binary32, of_bits, div, lt, neg}
 use lib.Ieee.Scale.{finite}
-use Rattle.float.proofs.is_finite.Statement.{statement}
-use Rattle.float.proofs.is_finite.Tie as tie
+use Rattle.float.proofs.is_finite.Goals as goal
 
 abbrev most : Float
 most = div binary32 (of_bits binary32 0x3f80_0000) (of_bits binary32 0)
@@ -23,11 +22,8 @@ not_below_is nan h = refl
 not_below_is (inf s) h = refl
 not_below_is (fin s m e) h = absurd (subst T h tt)
 
-returns : tie.Need-returns
-returns c = above _ c.if1.true
+pub returns-then-x-most : goal.returns-then-x-most
+returns-then-x-most c = above _ c.if-x-most.true
 
-returns-2 : tie.Need-returns-2
-returns-2 c = not_below_is _ c.if1.false
-
-pub is-finite-spec : {M : Type 1} → statement M
-is-finite-spec = tie.close (tie.spec returns returns-2)
+pub returns : goal.returns
+returns c = not_below_is _ c.if-x-most.false
