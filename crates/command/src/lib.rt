@@ -5,7 +5,7 @@ ghost use Rattle.command.specs.Commands.{verb_of, moved_all, is_move, is_close, 
 
 use geometry::{Point, Transform};
 
-#[derive(Drop)]
+#[derive(Clone, Copy)]
 pub enum Command {
     // Begins a new subpath at the point.
     MoveTo(Point),
@@ -20,7 +20,7 @@ pub enum Command {
 }
 
 // What a command does.
-#[derive(Drop)]
+#[derive(Clone, Copy)]
 pub enum Verb {
     MoveTo,
     LineTo,

@@ -14,21 +14,21 @@ pub const LIMIT: u32 = 1048576;
 // What is added to a number to hold it: 8192 pixels.
 pub const BIAS: u32 = 2097152;
 
-#[derive(Drop)]
+#[derive(Clone, Copy)]
 pub struct FixedPoint {
     pub x: u32,
     pub y: u32,
 }
 
 // A coordinate by the point rule. `cut` says whether something was cut off.
-#[derive(Drop)]
+#[derive(Clone, Copy)]
 pub enum Fix {
     Fixed { at: u32, cut: bool },
     Refused,
 }
 
 // A point by the point rule. `cuts` says how many of its two parts were cut.
-#[derive(Drop)]
+#[derive(Clone, Copy)]
 pub enum Spot {
     At { point: FixedPoint, cuts: u32 },
     Outside,

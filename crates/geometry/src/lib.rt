@@ -8,14 +8,14 @@ ghost use Rattle.geometry.specs.Held.{own, raised, held_around, held_span};
 
 use float::Cut;
 
-#[derive(Drop)]
+#[derive(Clone, Copy)]
 pub struct Point {
     pub x: f32,
     pub y: f32,
 }
 
 // Sends (x, y) to (x·xx + y·yx) + tx, (x·xy + y·yy) + ty: the fields x and y are tx and ty.
-#[derive(Drop)]
+#[derive(Clone, Copy)]
 pub struct Transform {
     pub xx: f32,
     pub xy: f32,
@@ -167,7 +167,7 @@ impl Transform {
     }
 }
 
-#[derive(Drop)]
+#[derive(Clone, Copy)]
 pub struct Bounds {
     pub min: Point,
     pub max: Point,
@@ -256,14 +256,14 @@ impl Bounds {
 }
 
 // Where (0, 0) lies in the picture.
-#[derive(Drop)]
+#[derive(Clone, Copy)]
 pub enum Origin {
     TopLeft,
     BottomLeft,
 }
 
 // Where a mask lies, and its size in pixels.
-#[derive(Drop)]
+#[derive(Clone, Copy)]
 pub struct Placement {
     pub left: i32,
     pub top: i32,
@@ -272,7 +272,7 @@ pub struct Placement {
 }
 
 // The offset that brings a box to the mask, and the mask; or that the box lies too far out.
-#[derive(Drop)]
+#[derive(Clone, Copy)]
 pub enum Placed {
     At { offset: Point, placement: Placement },
     Outside,
@@ -285,14 +285,14 @@ const MID: u32 = 0x100_0000;
 const REACH: u32 = 0x80_0000;
 
 // The whole numbers at or below a float and at or above it.
-#[derive(Drop)]
+#[derive(Clone, Copy)]
 enum Around {
     Near { down: u32, up: u32 },
     Far,
 }
 
 // One side of a mask: where it starts and how long it is.
-#[derive(Drop)]
+#[derive(Clone, Copy)]
 enum Span {
     Over { from: u32, size: u32 },
     Beyond,

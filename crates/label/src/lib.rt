@@ -11,7 +11,7 @@ use path::{Judged, Pool, Refusal, Verdict};
 use sweep::Fill;
 
 // What a drawing takes besides list, mask and workspace. The band is the rows from first up to end.
-#[derive(Drop)]
+#[derive(Clone, Copy)]
 pub struct Label {
     pub transform: Transform,
     pub offset: Point,
@@ -25,7 +25,7 @@ pub struct Label {
 }
 
 // What a drawing answers.
-#[derive(Drop)]
+#[derive(Clone, Copy)]
 pub enum Answer {
     Drawn { records: u32, cells: u32, cut: u32 },
     Refused { why: Refusal, record: u32 },
@@ -33,7 +33,7 @@ pub enum Answer {
 
 // An answer in the rules' numbers; the C face hands it out.
 #[repr(C)]
-#[derive(Drop)]
+#[derive(Clone, Copy)]
 pub struct Numbers {
     pub number: u32,
     pub index: u32,

@@ -15,7 +15,7 @@ use fixed::FixedPoint;
 use pen::{Frame, Pen};
 
 // The two end points of a line.
-#[derive(Drop)]
+#[derive(Clone, Copy)]
 pub struct Ends {
     pub x1: u64,
     pub y1: u64,
@@ -24,7 +24,7 @@ pub struct Ends {
 }
 
 // Where a line is: its cell, and the point in the cell.
-#[derive(Drop)]
+#[derive(Clone, Copy)]
 pub struct At {
     pub col: u64,
     pub row: u64,
@@ -33,7 +33,7 @@ pub struct At {
 }
 
 // The side through which a line leaves a cell.
-#[derive(Drop)]
+#[derive(Clone, Copy)]
 pub enum Side {
     Left,
     Next,
@@ -42,14 +42,14 @@ pub enum Side {
 }
 
 // 16,777,215 over the line's width, and over its height.
-#[derive(Drop)]
+#[derive(Clone, Copy)]
 struct Rates {
     x: u64,
     y: u64,
 }
 
 // One side crossed: the point at which the line leaves the cell, where it is then, and p there.
-#[derive(Drop)]
+#[derive(Clone, Copy)]
 struct Turn {
     fx: u64,
     fy: u64,

@@ -7,7 +7,7 @@ use command::Command;
 use geometry::Point;
 
 // Why a record is refused.
-#[derive(Drop)]
+#[derive(Clone, Copy)]
 pub enum Reason {
     // The header or the body passes the end of the list.
     Cut,
@@ -18,7 +18,7 @@ pub enum Reason {
 }
 
 // What stands at a place of a list.
-#[derive(Drop)]
+#[derive(Clone, Copy)]
 pub enum Step {
     // A command, and the place behind its record.
     Command(Command, usize),

@@ -12,7 +12,7 @@ use placing::{BoxNumbers, PlaceNumbers};
 use sweep::Fill;
 
 #[repr(C)]
-#[derive(Drop)]
+#[derive(Clone, Copy)]
 pub struct MzTransform {
     pub xx: f32,
     pub xy: f32,
@@ -23,14 +23,14 @@ pub struct MzTransform {
 }
 
 #[repr(C)]
-#[derive(Drop)]
+#[derive(Clone, Copy)]
 pub struct MzPoint {
     pub x: f32,
     pub y: f32,
 }
 
 #[repr(C)]
-#[derive(Drop)]
+#[derive(Clone, Copy)]
 pub struct MzLabel {
     pub transform: MzTransform,
     pub offset_x: f32,

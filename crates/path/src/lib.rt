@@ -28,7 +28,7 @@ const MOST_BYTES: usize = 65536;
 const MOST_CELLS: usize = 16384;
 
 // Why a label is turned away.
-#[derive(Drop)]
+#[derive(Clone, Copy)]
 pub enum Refusal {
     // 1: width or height above 4,096.
     Size,
@@ -61,7 +61,7 @@ pub enum Refusal {
 }
 
 // A judgement: nothing is at fault, or this is.
-#[derive(Drop)]
+#[derive(Clone, Copy)]
 pub enum Verdict {
     Fine,
     Faulty(Refusal),
@@ -140,7 +140,7 @@ fn spot_at(t: Transform, o: Point, p: Point) -> Spot
 }
 
 // A record, or points of it: fine, and so many of their coordinates are cut; or at fault.
-#[derive(Drop)]
+#[derive(Clone, Copy)]
 enum Ruling {
     Cuts(u32),
     Faulty(Refusal),
@@ -205,7 +205,7 @@ fn rule(t: Transform, o: Point, i: u32, closed: bool, k: Command) -> Ruling
 }
 
 // What a list is: so many records and coordinates that are cut, or the first fault and the index of its record.
-#[derive(Drop)]
+#[derive(Clone, Copy)]
 pub enum Judged {
     Records { count: u32, cut: u32 },
     Refused(Refusal, u32),
@@ -275,7 +275,7 @@ fn stroke_of(t: Transform, o: Point, k: Command) -> Stroke
 
 // A pool after a list was drawn: it holds so many cells, or the record of this index was too much for it. The end counts as
 // the record behind the last.
-#[derive(Drop)]
+#[derive(Clone, Copy)]
 pub enum Pool {
     Cells(usize),
     Full(usize),

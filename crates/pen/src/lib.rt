@@ -8,14 +8,14 @@ ghost use Rattle.pen.specs.Drawing.{Ready, Added, Drew, lifted, stand_of};
 use storage::Kept;
 
 // The drawing's edges, as cells: columns below wide, rows from first up to end. A cell z is held as z + 8192.
-#[derive(Drop)]
+#[derive(Clone, Copy)]
 pub struct Frame {
     pub wide: u64,
     pub first: u64,
     pub end: u64,
 }
 
-#[derive(Drop)]
+#[derive(Clone, Copy)]
 pub struct Pen {
     // Whether the pen is in a cell: before the first MoveTo it is in none.
     pub down: bool,

@@ -16,14 +16,14 @@ use list::Step;
 use path::{Judged, Refusal, Verdict};
 
 // What bounds answer.
-#[derive(Drop)]
+#[derive(Clone, Copy)]
 pub enum Boxed {
     Box(Bounds),
     Refused { why: Refusal, record: u32 },
 }
 
 // What placement answers: the new offset, where the mask lies, and how many coordinates are cut.
-#[derive(Drop)]
+#[derive(Clone, Copy)]
 pub enum Laid {
     At {
         offset: Point,
@@ -38,7 +38,7 @@ pub enum Laid {
 
 // The answers in the rules' numbers, laid out for C.
 #[repr(C)]
-#[derive(Drop)]
+#[derive(Clone, Copy)]
 pub struct BoxNumbers {
     pub number: u32,
     pub index: u32,
@@ -49,7 +49,7 @@ pub struct BoxNumbers {
 }
 
 #[repr(C)]
-#[derive(Drop)]
+#[derive(Clone, Copy)]
 pub struct PlaceNumbers {
     pub number: u32,
     pub index: u32,

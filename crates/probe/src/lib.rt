@@ -18,14 +18,14 @@ const MOST_ROWS: usize = 4096;
 const NO_CELLS: u64 = 65535;
 
 #[repr(C)]
-#[derive(Drop)]
+#[derive(Clone, Copy)]
 pub struct MzBox {
     pub min: MzPoint,
     pub max: MzPoint,
 }
 
 #[repr(C)]
-#[derive(Drop)]
+#[derive(Clone, Copy)]
 pub struct MzPlaced {
     pub placed: bool,
     pub offset: MzPoint,

@@ -12,7 +12,7 @@ use pen::{Frame, Pen};
 use storage::Kept;
 
 // A command in fixed numbers.
-#[derive(Drop)]
+#[derive(Clone, Copy)]
 pub enum Stroke {
     Move(FixedPoint),
     Line(FixedPoint),
@@ -21,7 +21,7 @@ pub enum Stroke {
     Close,
 }
 
-#[derive(Drop)]
+#[derive(Clone, Copy)]
 pub struct Track {
     pub pen: Pen,
     // The pen point, and where the subpath started.
