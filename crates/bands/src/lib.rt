@@ -66,9 +66,9 @@ fn line_of(l: Label, first: usize, end: usize) -> usize
 
 // The cells of the bands together, or that one of them is too many for its pool, and at which record. Nothing is painted.
 fn count(list: &[u8], l: Label, step: usize, words: &mut [u32]) -> Pool
-    requires fact_1 { Sized l }
-    requires fact_2 { rows l ≤ length words.old }
-    requires fact_3 { 0 < step }
+    requires sized { Sized l }
+    requires enough_words { rows l ≤ length words.old }
+    requires steps { 0 < step }
     ensures { Counted l step list.now (length words.old) result }
 {
     let mut at = l.first;
@@ -90,8 +90,8 @@ fn count(list: &[u8], l: Label, step: usize, words: &mut [u32]) -> Pool
 
 // Paints one band into its part of the mask.
 fn paint_band(list: &[u8], b: Label, mask: &mut [u8], words: &mut [u32])
-    requires fact_1 { Sized b }
-    requires fact_2 { Lent b (length mask.old) (length words.old) }
+    requires sized { Sized b }
+    requires lent { Lent b (length mask.old) (length words.old) }
     ensures { BandPainted b list.now (length words.old) mask.old mask.new }
 {
     let rows = b.end - b.first;
@@ -104,9 +104,9 @@ fn paint_band(list: &[u8], b: Label, mask: &mut [u8], words: &mut [u32])
 
 // Paints the bands one after the other.
 fn paint(list: &[u8], l: Label, step: usize, mask: &mut [u8], words: &mut [u32])
-    requires fact_1 { Sized l }
-    requires fact_2 { Lent l (length mask.old) (length words.old) }
-    requires fact_3 { 0 < step }
+    requires sized { Sized l }
+    requires lent { Lent l (length mask.old) (length words.old) }
+    requires steps { 0 < step }
     ensures { Painted l step list.now (length words.old) mask.old mask.new }
 {
     let mut at = l.first;
@@ -129,10 +129,10 @@ fn ink(
     mask: &mut [u8],
     words: &mut [u32],
 ) -> Answer
-    requires fact_1 { Sized l }
-    requires fact_2 { Lent l (length mask.old) (length words.old) }
-    requires fact_3 { 0 < step }
-    requires fact_4 { length list.now ≤ most_bytes }
+    requires sized { Sized l }
+    requires lent { Lent l (length mask.old) (length words.old) }
+    requires steps { 0 < step }
+    requires few_bytes { length list.now ≤ most_bytes }
     ensures { Inked (ran_out_in_band step l (length words.old)) l records cut list.now mask.old words.old (outcome result mask.new words.new) }
 {
     match count(list, l, step, words) {
@@ -163,8 +163,8 @@ pub fn draw_in_bands(
     mask: &mut [u8],
     words: &mut [u32],
 ) -> Answer
-    ensures fact_1 { outcome result mask.new words.new ≡ draw_in_bands_of step l list.now mask.old words.old }
-    ensures fact_2 { AsAtOnce (draw_of l list.now mask.old words.old) (outcome result mask.new words.new) }
+    ensures told { outcome result mask.new words.new ≡ draw_in_bands_of step l list.now mask.old words.old }
+    ensures as_at_once { AsAtOnce (draw_of l list.now mask.old words.old) (outcome result mask.new words.new) }
 {
     match label::check(l, list.len(), mask.len(), words.len()) {
         Verdict::Faulty(why) => Answer::Refused { why, record: 0 },

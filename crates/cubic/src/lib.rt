@@ -97,12 +97,12 @@ fn flatten(
     d: FixedPoint,
     b: FixedPoint,
 ) -> Pen
-    requires ready_1 { Ready f cap ws.old }
-    requires ready_2 { Within cap start.kept }
-    requires reach_1 { Reach a }
-    requires reach_2 { Reach c }
-    requires reach_3 { Reach d }
-    requires reach_4 { Reach b }
+    requires ready { Ready f cap ws.old }
+    requires within { Within cap start.kept }
+    requires reach_a { Reach a }
+    requires reach_c { Reach c }
+    requires reach_d { Reach d }
+    requires reach_b { Reach b }
     ensures { Drew f cap ws.old ws.new start result (along f a (cubic_points a c d b)) }
 {
     let mut arc = [FixedPoint { x: 0, y: 0 }; PLACES];
@@ -151,12 +151,12 @@ pub fn curve_to(
     d: FixedPoint,
     b: FixedPoint,
 ) -> Pen
-    requires ready_1 { Ready f cap ws.old }
-    requires ready_2 { Within cap pen.kept }
-    requires reach_1 { Reach a }
-    requires reach_2 { Reach c }
-    requires reach_3 { Reach d }
-    requires reach_4 { Reach b }
+    requires ready { Ready f cap ws.old }
+    requires within { Within cap pen.kept }
+    requires reach_a { Reach a }
+    requires reach_c { Reach c }
+    requires reach_d { Reach d }
+    requires reach_b { Reach b }
     ensures { Drew f cap ws.old ws.new pen result (cubic_marks f a c d b) }
 {
     if are_past(f, a, c, d, b) {

@@ -9,7 +9,7 @@ ghost use Rattle.float.specs.Cut.{sized_of, cut_of};
 ghost use Rattle.float.specs.Round.{floor_of, ceil_of};
 
 // A float cut toward zero: whether it is below zero, its whole part, and whether anything was cut off.
-#[derive(Drop)]
+#[derive(Clone, Copy)]
 pub enum Cut {
     Near { below: bool, whole: u32, rest: bool },
     Far,

@@ -126,9 +126,9 @@ pub fn check(l: Label, list: usize, mask: usize, words: usize) -> Verdict
 
 // Draws an accepted list of so many records and cut coordinates.
 fn ink(list: &[u8], l: Label, records: u32, cut: u32, mask: &mut [u8], words: &mut [u32]) -> Answer
-    requires fact_1 { Sized l }
-    requires fact_2 { Lent l (length mask.old) (length words.old) }
-    requires fact_3 { length list.now ≤ most_bytes }
+    requires sized { Sized l }
+    requires lent { Lent l (length mask.old) (length words.old) }
+    requires few_bytes { length list.now ≤ most_bytes }
     ensures { Inked (ran_out l (length words.old)) l records cut list.now mask.old words.old (outcome result mask.new words.new) }
 {
     let rows = l.end - l.first;

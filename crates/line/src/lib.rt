@@ -101,8 +101,8 @@ fn begin(l: Ends) -> At
 
 // a - b as a 32-bit word.
 fn word_of(a: u64, b: u64) -> u32
-    requires fact_1 { a < 2 ^ 32 }
-    requires fact_2 { b < 2 ^ 32 }
+    requires a_small { a < 2 ^ 32 }
+    requires b_small { b < 2 ^ 32 }
     ensures { result ≡ word (a ⊖ b) }
 {
     ((a + WORDS - b) % WORDS) as u32
@@ -110,9 +110,9 @@ fn word_of(a: u64, b: u64) -> u32
 
 // The cell is given the pair of the line up to (fx, fy).
 fn give(pen: Pen, at: At, fx: u64, fy: u64) -> Pen
-    requires fact_1 { InCell at }
-    requires fact_2 { fx ≤ 256 }
-    requires fact_3 { fy ≤ 256 }
+    requires in_cell { InCell at }
+    requires fx_small { fx ≤ 256 }
+    requires fy_small { fy ≤ 256 }
     ensures { (result.kept ≡ pen.kept) × (stand_of result ≡ gave (stand_of pen) (cover at fy) (area at fx fy)) }
 {
     let w = at.fx + fx;
@@ -121,11 +121,11 @@ fn give(pen: Pen, at: At, fx: u64, fy: u64) -> Pen
 
 // The cell is left at (fx, fy), and the next one entered.
 fn cross(ws: &mut [u32], f: Frame, cap: usize, pen: Pen, at: At, fx: u64, fy: u64, to: At) -> Pen
-    requires fact_1 { Ready f cap ws.old }
-    requires fact_2 { Within cap pen.kept }
-    requires fact_3 { InCell at }
-    requires fact_4 { fx ≤ 256 }
-    requires fact_5 { fy ≤ 256 }
+    requires ready { Ready f cap ws.old }
+    requires within { Within cap pen.kept }
+    requires in_cell { InCell at }
+    requires fx_small { fx ≤ 256 }
+    requires fy_small { fy ≤ 256 }
     ensures { Drew f cap ws.old ws.new pen result (pair at fx fy ∷ enter to.col to.row ∷ []) }
 {
     let given = give(pen, at, fx, fy);
@@ -152,9 +152,9 @@ fn step_row(at: At, next: bool) -> At
 
 // A vertical line steps a row at a time.
 fn vertical(ws: &mut [u32], f: Frame, cap: usize, pen: Pen, l: Ends) -> Pen
-    requires fact_1 { Ready f cap ws.old }
-    requires fact_2 { Within cap pen.kept }
-    requires fact_3 { Bounded l }
+    requires ready { Ready f cap ws.old }
+    requires within { Within cap pen.kept }
+    requires bounded { Bounded l }
     ensures { Drew f cap ws.old ws.new pen result (upright (rows_to l (cell l.y1)) (row_side l) l (start l)) }
 {
     let row = l.y2 / 256;
@@ -180,8 +180,8 @@ fn shifted(p: u64, z1: u64, z2: u64) -> u64
 
 // The side through which the line leaves a cell.
 fn way_out(l: Ends, p: u64) -> Side
-    requires fact_1 { Bounded l }
-    requires fact_2 { Near p }
+    requires bounded { Bounded l }
+    requires near { Near p }
     ensures { result ≡ way l (p ⊖ B) }
 {
     let q = shifted(p, l.x2, l.x1);
@@ -208,9 +208,9 @@ fn crossing(a: u64, r: u64) -> u64
 
 // Crosses the side through which the line leaves its cell.
 fn step(l: Ends, k: Rates, p: u64, at: At) -> Turn
-    requires fact_1 { Rated l k }
-    requires fact_2 { Under l p at }
-    requires fact_3 { 0 < togo l at.col at.row }
+    requires rated { Rated l k }
+    requires under { Under l p at }
+    requires unfinished { 0 < togo l at.col at.row }
     ensures { Stepped l p at result }
 {
     match way_out(l, p) {
@@ -239,10 +239,10 @@ fn step(l: Ends, k: Rates, p: u64, at: At) -> Turn
 
 // From where a slanted line is to its end.
 fn walk(ws: &mut [u32], f: Frame, cap: usize, pen: Pen, l: Ends, k: Rates, p: u64, at: At) -> Pen
-    requires fact_1 { Ready f cap ws.old }
-    requires fact_2 { Within cap pen.kept }
-    requires fact_3 { Rated l k }
-    requires fact_4 { Under l p at }
+    requires ready { Ready f cap ws.old }
+    requires within { Within cap pen.kept }
+    requires rated { Rated l k }
+    requires under { Under l p at }
     ensures { Drew f cap ws.old ws.new pen result (crossed (togo l at.col at.row) l (p ⊖ B) at) }
 {
     let col = l.x2 / 256;
@@ -269,8 +269,8 @@ fn gap(a: u64, b: u64) -> u64
 
 // The rates of a line that is neither level nor vertical.
 fn rates_of(l: Ends) -> Rates
-    requires fact_1 { Bounded l }
-    requires fact_2 { Slanted l }
+    requires bounded { Bounded l }
+    requires slanted { Slanted l }
     ensures { Rated l result }
 {
     let w = gap(l.x2, l.x1);
@@ -283,20 +283,20 @@ fn rates_of(l: Ends) -> Rates
 
 // A fraction times a number.
 fn scaled(f: u64, z: u64) -> u64
-    requires fact_1 { f < 256 }
-    requires fact_2 { z < 2 ^ 22 }
-    ensures fact_1 { result ≡ f * z }
-    ensures fact_2 { result < 2 ^ 30 }
+    requires f_small { f < 256 }
+    requires z_small { z < 2 ^ 22 }
+    ensures value { result ≡ f * z }
+    ensures small { result < 2 ^ 30 }
 {
     f * z
 }
 
 // p where a line begins.
 fn product(l: Ends) -> u64
-    requires fact_1 { Bounded l }
-    requires fact_2 { Slanted l }
-    ensures fact_1 { Under l result (start l) }
-    ensures fact_2 { result ⊖ B ≡ p l (start l) }
+    requires bounded { Bounded l }
+    requires slanted { Slanted l }
+    ensures under { Under l result (start l) }
+    ensures exact { result ⊖ B ≡ p l (start l) }
 {
     let fx = l.x1 % 256;
     let fy = l.y1 % 256;
@@ -328,10 +328,10 @@ fn skipped(f: Frame, l: Ends) -> bool
 
 // A line that is neither level nor vertical.
 fn slanted(ws: &mut [u32], f: Frame, cap: usize, pen: Pen, l: Ends) -> Pen
-    requires fact_1 { Ready f cap ws.old }
-    requires fact_2 { Within cap pen.kept }
-    requires fact_3 { Bounded l }
-    requires fact_4 { Slanted l }
+    requires ready { Ready f cap ws.old }
+    requires within { Within cap pen.kept }
+    requires bounded { Bounded l }
+    requires slanted { Slanted l }
     ensures { Drew f cap ws.old ws.new pen result (crossed (sides l) l (p l (start l)) (start l)) }
 {
     let k = rates_of(l);
@@ -340,9 +340,9 @@ fn slanted(ws: &mut [u32], f: Frame, cap: usize, pen: Pen, l: Ends) -> Pen
 
 // A line by its ends.
 fn draw(ws: &mut [u32], f: Frame, cap: usize, pen: Pen, l: Ends) -> Pen
-    requires fact_1 { Ready f cap ws.old }
-    requires fact_2 { Within cap pen.kept }
-    requires fact_3 { Bounded l }
+    requires ready { Ready f cap ws.old }
+    requires within { Within cap pen.kept }
+    requires bounded { Bounded l }
     ensures { Drew f cap ws.old ws.new pen result (marks_in f l) }
 {
     if skipped(f, l) {
@@ -366,10 +366,10 @@ fn draw(ws: &mut [u32], f: Frame, cap: usize, pen: Pen, l: Ends) -> Pen
 
 // A line from a to b. The pen point is the caller's.
 pub fn line_to(ws: &mut [u32], f: Frame, cap: usize, pen: Pen, a: FixedPoint, b: FixedPoint) -> Pen
-    requires fact_1 { Ready f cap ws.old }
-    requires fact_2 { Within cap pen.kept }
-    requires fact_3 { Reach a }
-    requires fact_4 { Reach b }
+    requires ready { Ready f cap ws.old }
+    requires within { Within cap pen.kept }
+    requires reach_a { Reach a }
+    requires reach_b { Reach b }
     ensures { Drew f cap ws.old ws.new pen result (line_marks f a b) }
 {
     draw(ws, f, cap, pen, ends_of(a, b))

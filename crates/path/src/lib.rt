@@ -157,8 +157,8 @@ fn rule_point(t: Transform, o: Point, p: Point) -> Ruling
 
 // Two parts of a record, one behind the other.
 fn both(a: Ruling, b: Ruling) -> Ruling
-    requires fact_1 { Few a }
-    requires fact_2 { Few b }
+    requires few_a { Few a }
+    requires few_b { Few b }
     ensures { result ≡ both_ruled a b }
 {
     match a {

@@ -61,10 +61,10 @@ fn set(
     cover: u32,
     area: u32,
 ) -> Kept
-    requires fact_1 { Ready f cap ws.old }
-    requires fact_2 { Within cap kept }
-    ensures fact_1 { Within cap result }
-    ensures fact_2 { Added f cap ws.old ws.new kept result (pair_of col row cover area ∷ []) }
+    requires ready { Ready f cap ws.old }
+    requires within { Within cap kept }
+    ensures within { Within cap result }
+    ensures added { Added f cap ws.old ws.new kept result (pair_of col row cover area ∷ []) }
 {
     match kept {
         Kept::Full => Kept::Full,
@@ -87,10 +87,10 @@ fn set(
 
 // The pair of the cell that the pen leaves is stored, unless both parts are zero.
 fn leave(ws: &mut [u32], f: Frame, cap: usize, pen: Pen) -> Kept
-    requires fact_1 { Ready f cap ws.old }
-    requires fact_2 { Within cap pen.kept }
-    ensures fact_1 { Within cap result }
-    ensures fact_2 { Added f cap ws.old ws.new pen.kept result (leaving (stand_of pen)) }
+    requires ready { Ready f cap ws.old }
+    requires within { Within cap pen.kept }
+    ensures within { Within cap result }
+    ensures added { Added f cap ws.old ws.new pen.kept result (leaving (stand_of pen)) }
 {
     let kept = pen.kept;
     if !pen.down {
@@ -106,8 +106,8 @@ fn leave(ws: &mut [u32], f: Frame, cap: usize, pen: Pen) -> Kept
 
 // Enters a cell, also the one that the pen is in: the pair that it leaves is stored, unless both parts are zero.
 pub fn set_cell(ws: &mut [u32], f: Frame, cap: usize, pen: Pen, col: u64, row: u64) -> Pen
-    requires fact_1 { Ready f cap ws.old }
-    requires fact_2 { Within cap pen.kept }
+    requires ready { Ready f cap ws.old }
+    requires within { Within cap pen.kept }
     ensures { Drew f cap ws.old ws.new pen result (enter col row ∷ []) }
 {
     let kept = leave(ws, f, cap, pen);
@@ -138,10 +138,10 @@ pub fn add(pen: Pen, cover: u32, area: u32) -> Pen
 
 // The end: the cell that the pen is in is stored, where it is inside, also with both parts zero.
 pub fn finish(ws: &mut [u32], f: Frame, cap: usize, pen: Pen) -> Kept
-    requires fact_1 { Ready f cap ws.old }
-    requires fact_2 { Within cap pen.kept }
-    ensures fact_1 { Within cap result }
-    ensures fact_2 { Added f cap ws.old ws.new pen.kept result (last_of (stand_of pen)) }
+    requires ready { Ready f cap ws.old }
+    requires within { Within cap pen.kept }
+    ensures within { Within cap result }
+    ensures added { Added f cap ws.old ws.new pen.kept result (last_of (stand_of pen)) }
 {
     let kept = pen.kept;
     if !pen.down {

@@ -86,11 +86,11 @@ pub fn quad_to(
     c: FixedPoint,
     b: FixedPoint,
 ) -> Pen
-    requires fact_1 { Ready f cap ws.old }
-    requires fact_2 { Within cap pen.kept }
-    requires fact_3 { Reach a }
-    requires fact_4 { Reach c }
-    requires fact_5 { Reach b }
+    requires ready { Ready f cap ws.old }
+    requires within { Within cap pen.kept }
+    requires reach_a { Reach a }
+    requires reach_c { Reach c }
+    requires reach_b { Reach b }
     ensures { Drew f cap ws.old ws.new pen result (quad_marks f a c b) }
 {
     if all_past(f, a, c, b) || all_ahead(f, a, c, b) {

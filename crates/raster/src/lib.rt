@@ -46,8 +46,8 @@ pub fn begin() -> Track
 
 // MoveTo: the open subpath is closed, and the pen enters the new point's cell.
 fn move_to(ws: &mut [u32], f: Frame, cap: usize, t: Track, b: FixedPoint) -> Pen
-    requires fact_1 { Ready f cap ws.old }
-    requires fact_2 { Sound cap t }
+    requires ready { Ready f cap ws.old }
+    requires sound { Sound cap t }
     ensures { Drew f cap ws.old ws.new t.pen result (move_marks f t.at t.start b) }
 {
     let closed = line::line_to(ws, f, cap, t.pen, t.at, t.start);
@@ -63,9 +63,9 @@ fn move_to(ws: &mut [u32], f: Frame, cap: usize, t: Track, b: FixedPoint) -> Pen
 
 // Draws one stroke.
 pub fn trace(ws: &mut [u32], f: Frame, cap: usize, t: Track, s: Stroke) -> Track
-    requires fact_1 { Ready f cap ws.old }
-    requires fact_2 { Sound cap t }
-    requires fact_3 { ReachAll s }
+    requires ready { Ready f cap ws.old }
+    requires sound { Sound cap t }
+    requires reach { ReachAll s }
     ensures { Stroked f cap ws.old ws.new t s result }
 {
     let a = t.at;
@@ -104,10 +104,10 @@ pub fn trace(ws: &mut [u32], f: Frame, cap: usize, t: Track, s: Stroke) -> Track
 
 // The end: the open subpath is closed, and the last cell is stored.
 pub fn finish(ws: &mut [u32], f: Frame, cap: usize, t: Track) -> Kept
-    requires fact_1 { Ready f cap ws.old }
-    requires fact_2 { Sound cap t }
-    ensures fact_1 { Within cap result }
-    ensures fact_2 { Added f cap ws.old ws.new t.pen.kept result (end_of f (stand_of t.pen) t.at t.start) }
+    requires ready { Ready f cap ws.old }
+    requires sound { Sound cap t }
+    ensures within { Within cap result }
+    ensures added { Added f cap ws.old ws.new t.pen.kept result (end_of f (stand_of t.pen) t.at t.start) }
 {
     let closed = line::line_to(ws, f, cap, t.pen, t.at, t.start);
     pen::finish(ws, f, cap, closed)

@@ -203,7 +203,7 @@ fn put_cell(ws: &mut [u32], at: usize, place: u32, cover: u32, area: u32, links:
     ws[at + 3] = links;
 }
 
-#[derive(Drop)]
+#[derive(Clone, Copy)]
 pub enum Kept {
     // Stored; the pool now has so many cells.
     Cells(usize),
