@@ -1,7 +1,7 @@
 -- The cases of a line: which rule gives its marks.
 use Prim.Native.Nat.{◌<◌, ◌≤◌}
 use mathlib.Core.Path.{◌≡◌, refl}
-use mathlib.Core.Bool.{Bool, true, false, ◌&&◌, ◌||◌, or_true, false≢true}
+use mathlib.Core.Bool.{Bool, true, false, ◌&&◌, ◌||◌, or-true, false≢true}
 use mathlib.Core.Logic.{◌⊎◌, inl, inr}
 use lib.Dec.{leb, ltb}
 use mathlib.Core.List.{[], ◌∷◌}
@@ -49,7 +49,7 @@ module _ (f : Frame) (l : Ends) where
   skips-past h g = rw (yes_le f.end (cell l.y1) f.end (cell l.y2) h g)
 
   pub skips-ahead : cell l.y1 < f.first → cell l.y2 < f.first → skips f l ≡ true
-  skips-ahead h g = rw (yes-lts (cell l.y1) f.first (cell l.y2) f.first h g, or_true _)
+  skips-ahead h g = rw (yes-lts (cell l.y1) f.first (cell l.y2) f.first h g, or-true _)
 
   pub skips-not : (f.end ≤ cell l.y1 → cell l.y2 < f.end) → (cell l.y1 < f.first → f.first ≤ cell l.y2) → skips f l ≡ false
   skips-not h g = rw (no_le f.end (cell l.y1) f.end (cell l.y2) h, no-lts (cell l.y1) f.first (cell l.y2) f.first g)

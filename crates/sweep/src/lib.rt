@@ -6,7 +6,7 @@ ghost use Rattle.sweep.specs.Rows.{Painted, CellSwept, RowFits, RowSwept};
 ghost use Rattle.sweep.specs.Masks.{Fits, Swept};
 
 // Which pixels are inside.
-#[derive(Drop)]
+#[derive(Clone, Copy)]
 pub enum Fill {
     NonZero,
     EvenOdd,

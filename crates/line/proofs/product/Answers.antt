@@ -1,0 +1,11 @@
+-- p there is held in natural numbers.
+use native.Mathlib.Omega.{arith}
+use Rattle.line.proofs.Begun.{begun_line}
+use borrow.Author.Rules.{rules}
+use Rattle.line.proofs.product.Goals as goal
+
+pub returns : goal.returns
+returns c =
+    let u =
+    begun_line c.args.l _ c.requires.bounded c.requires.slanted (omega arith) in
+    record { under = u.0; exact = u.1 }

@@ -1,0 +1,11 @@
+-- `sweep::sweep` meets its contract, line by line.
+use Rattle.std.proofs.Common.{◌≡◌, ◌+◌, ◌-◌, ◌*◌, ◌≤◌, length, ⊎_elim, arith}
+use Rattle.sweep.proofs.Lines.{Lines, lines_none, lines_more, line_fits, lines_all, row_up, row_down, row_lt}
+use Rattle.sweep.specs.Masks.{row_at}
+use Rattle.sweep.proofs.sweep.Given as goal
+
+abbrev pub invariant-loop-l : goal.invariant-loop-l
+invariant-loop-l l = Lines l.ws l.initial.mask l.mask l.rows l.count l.width l.fill l.up l.pitch l.l l.at
+
+abbrev pub decreases-loop-l : goal.decreases-loop-l
+decreases-loop-l l = l.rows - l.l
