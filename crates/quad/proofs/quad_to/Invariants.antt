@@ -1,0 +1,18 @@
+-- While the loop runs, the marks made and the marks of the lines to the points left on the stack are all the marks. The number of lines left falls, or `rest` is halved.
+use Prim.Native.Nat.{ℕ, ◌+◌, ◌*◌, ◌^◌}
+use mathlib.Core.Path.{sym, ap, ◌∙◌}
+use mathlib.Core.Logic.{⊎_elim}
+use native.Mathlib.Omega.{arith}
+use borrow.Author.Rules.{rules}
+use Rattle.pen.proofs.Adding.{drew-none, still-ready}
+use Rattle.quad.specs.Quads.{doublings}
+use Rattle.quad.proofs.Skipping.{past-marks, ahead-marks, drawn-marks}
+use Rattle.quad.proofs.Stack.{never-full, few-left, some_left, room, rest-less, popped}
+use Rattle.quad.proofs.Drawing.{all_marks, Going, going, halving, finished, onward}
+use Rattle.quad.proofs.quad_to.Given as goal
+
+abbrev pub invariant-loop-rest : goal.invariant-loop-rest
+invariant-loop-rest l = Going l.f l.cap (all_marks l.f l.initial.from l.initial.arc) l.initial.ws l.initial.drawn l.ws l.arc l.top l.draw l.rest l.from l.drawn
+
+abbrev pub decreases-loop-rest : goal.decreases-loop-rest
+decreases-loop-rest l = 257 * l.draw + l.rest
