@@ -52,9 +52,9 @@ module _ (p q : Bool) (x y : List Mark) where
   no-side h g = rw (h, g)
 
 module _ (f : Frame) (a c d b : FixedPoint) {r : Bool} (e : r ≡ all_past f a c d b) where
-  pub all_past : r ≡ true → cubic_marks f a c d b ≡ []
+  pub past_none : r ≡ true → cubic_marks f a c d b ≡ []
   unfolding cubic_marks
-  all_past h = first-side _ _ [] (along f a (cubic_points a c d b)) (sym e ∙ h)
+  past_none h = first-side _ _ [] (along f a (cubic_points a c d b)) (sym e ∙ h)
 
   module _ {s : Bool} (g : s ≡ all_ahead f a c d b) (h : r ≡ false) where
     pub all-ahead : s ≡ true → cubic_marks f a c d b ≡ []
