@@ -1,0 +1,8 @@
+-- The heads are cleared, so the words hold nothing; then the strokes are stored.
+use Rattle.path.proofs.Pouring.{ready, poured}
+use borrow.Author.Rules.{rules}
+use Rattle.path.proofs.pour.Goals as goal
+
+pub returns : goal.returns
+returns c =
+    poured _ _ _ _ c.requires _ _ c.pool_of-cap.ensures c.clear.ensures _ _ _ _ _ (rw c.frame_of-f.ensures at c.trace_list.ensures)
