@@ -106,6 +106,8 @@ fixed_small (fin s m e) h =
 
 pub small_reaches : (v : Float) → Small v → reaches v ≡ true
 unfolding reaches
+small_reaches nan h = elim h [ ]
+small_reaches (inf t) h = elim h [ ]
 small_reaches (fin s m e) (small_part h) = lt-ltb (m * up e) (2 ^ 23 * down e) (omega (arith, down_pos e))
 
 pub record BothSmall (p : Point) : Type 0 where

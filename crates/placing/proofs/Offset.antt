@@ -7,7 +7,7 @@ use mathlib.Core.List.{[]}
 use native.Mathlib.Omega.{arith}
 use lib.Dec.{T, ltb, eqb, ltb→lt, eqb→eq}
 use lib.IntN.{ℤ, pos}
-use lib.Ieee.{Float, inf, fin, binary32, up, down, odd, units, round, sum, add, neg, le, of_bits}
+use lib.Ieee.{Float, nan, inf, fin, binary32, up, down, odd, units, round, sum, add, neg, le, of_bits}
 use lib.Ieee.Fits.{down_pos, round_is}
 use lib.Ieee.Order.{round_mono}
 use Rattle.float.specs.Cut.{zero_f}
@@ -83,6 +83,8 @@ sum_small true n c C h = go (ltb (0 * 1 * c) (n * 1))
 
 zero_plus : (v : Float) → Small v → Small (plus zero_f v)
 unfolding add of_bits
+zero_plus nan h = elim h [ ]
+zero_plus (inf t) h = elim h [ ]
 zero_plus (fin s m e) (small_part h) = sum_small s (m * up e) (down e) (down_pos e) h
 
 -- ---- an empty list

@@ -1,0 +1,8 @@
+-- The box lies near, so geometry's placement is not outside, and its parts are those of the rule.
+use mathlib.Core.Path.{sym, ◌∙◌}
+use Rattle.placing.proofs.Answers.{lays, never-outside}
+use borrow.Author.Rules.{rules}
+use Rattle.placing.proofs.lay.Goals as goal
+
+pub returns-in-At : goal.returns-in-At
+returns-in-At c = lays _ _ _ c.requires _ _ _ (sym c.compute.ensures ∙ c.in-At.is)
