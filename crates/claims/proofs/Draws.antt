@@ -67,9 +67,9 @@ module _ (l : Label) (mask words : List ℕ) (cs : List Command) where
   unfolding inked
   enough room = rw (le-ltb _ _ room)
 
-  too_many : pool_of l (length words) < distinct (log_of l cs) → inked (ran_out l (length words) cs) l mask words cs ≡ outcome (Refused Full (room_for l (length words) cs)) mask (wiped words)
+  too_many_refused : pool_of l (length words) < distinct (log_of l cs) → inked (ran_out l (length words) cs) l mask words cs ≡ outcome (Refused Full (room_for l (length words) cs)) mask (wiped words)
   unfolding inked
-  too_many room = rw (lt-ltb _ _ room)
+  too_many_refused room = rw (lt-ltb _ _ room)
 
 module _ (l : Label) (s mask words : List ℕ) where
   abbrev full : List Command → Option ℕ
@@ -92,7 +92,7 @@ module _ (l : Label) (s mask words : List ℕ) where
     turned-away e = refused_not_drawn (answered e ∙ h)
 
     of-log : (cs : List Command) → known Fine → read_list l.transform l.offset s ≡ path cs → (t : Bool) → too_many l (length words) cs ≡ t → Accepted l s (length mask) (length words) records cells cut
-    of-log cs e g true u = turned-away (sym (is-inked cs e g ∙ too_many l mask words cs (ltb-true _ _ u)))
+    of-log cs e g true u = turned-away (sym (is-inked cs e g ∙ too_many_refused l mask words cs (ltb-true _ _ u)))
     of-log cs e g false u =
         let room = ltb-false _ _ u in
         let same : drawn_as l cs ≡ Drawn records cells cut = sym (answered (draws cs e g room)) ∙ h in
