@@ -1,0 +1,18 @@
+-- The bands are counted one after the other, until one does not fit.
+use Prim.Native.Nat.{◌+◌, ◌-◌, ◌≤◌}
+use mathlib.Core.Path.{◌≡◌, refl, ◌∙◌}
+use native.Mathlib.Omega.{arith}
+use lib.ListN.{length}
+use borrow.Author.Rules.{rules}
+use Rattle.label.proofs.Pouring.{pours}
+use Rattle.claims.specs.Bands.{band_of}
+use Rattle.bands.specs.InBands.{band_end}
+use Rattle.bands.proofs.Rows.{band-sized}
+use Rattle.bands.proofs.Counting.{Counting, counting-none, counting_more, counted-all, counted-full}
+use Rattle.bands.proofs.count.Given as goal
+
+abbrev pub invariant-loop-at : goal.invariant-loop-at
+invariant-loop-at l = (length l.words ≡ length l.initial.words) × Counting l.l l.step l.list (length l.initial.words) l.at l.total
+
+abbrev pub decreases-loop-at : goal.decreases-loop-at
+decreases-loop-at l = l.l.end - l.at
