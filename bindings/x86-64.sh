@@ -1,4 +1,4 @@
-# Sourced by ./draw, .ci/run and the scripts of bindings/, and by whoever links the library on an Arm machine. `rt staticlib` writes an
+# Sourced by ./draw, .ci/run and the scripts of bindings/, and by whoever links the library on an Arm machine. `rt lib` writes an
 # archive for x86-64 alone: on another machine what links it is built by a cross compiler and run by an emulator, which .ci/install
 # brings where apt-get does. Sets
 #   cc, cxx     the compilers of C and C++

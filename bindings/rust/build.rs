@@ -91,13 +91,13 @@ fn not_found(installed: Option<&Path>, built: &Path) -> String {
     )
 }
 
-fn warn_if_old(archive: &Path, sources: &Path) {
-    if !sources.is_dir() {
-        return;
+fn warn_if_old(archive: &Path, crates: &Path) {
+    let sources = sources_below(crates);
+    for folder in &sources {
+        println!("cargo::rerun-if-changed={}", folder.display());
     }
-    println!("cargo::rerun-if-changed={}", sources.display());
     let built = changed(archive);
-    if let Some(newer) = newer_source(sources, built) {
+    if let Some(newer) = sources.iter().find_map(|it| newer_source(it, built)) {
         println!(
             "cargo::warning={} is older than {}: run `bindings/archive` at the repository's root",
             archive.display(),
@@ -106,18 +106,25 @@ fn warn_if_old(archive: &Path, sources: &Path) {
     }
 }
 
-/// A file below a folder that was changed after a time; wrong versions that must fail are no sources.
+/// The folders with the sources of Rattle's crates; beside them stand wrong versions and what the
+/// prover keeps.
+fn sources_below(crates: &Path) -> Vec<PathBuf> {
+    let entries = fs::read_dir(crates).into_iter().flatten().flatten();
+    entries
+        .flat_map(|entry| ["src", "specs", "proofs"].map(|part| entry.path().join(part)))
+        .filter(|folder| folder.is_dir())
+        .collect()
+}
+
+/// A file below a folder that was changed after a time.
 fn newer_source(folder: &Path, time: SystemTime) -> Option<PathBuf> {
     let entries = fs::read_dir(folder).ok()?;
     entries
         .flatten()
         .map(|entry| entry.path())
-        .find_map(|path| {
-            if path.is_dir() {
-                let source = path.file_name() != Some("must-fail".as_ref());
-                return source.then(|| newer_source(&path, time)).flatten();
-            }
-            (changed(&path) > time).then_some(path)
+        .find_map(|path| match path.is_dir() {
+            true => newer_source(&path, time),
+            false => (changed(&path) > time).then_some(path),
         })
 }
 

@@ -115,8 +115,7 @@ pub fn mz_point(p: Point) -> MzPoint
 // ---- drawing
 
 // The whole label of a size, as most are drawn.
-#[unsafe(no_mangle)]
-pub extern "C" fn mz_label(width: usize, height: usize) -> MzLabel
+pub fn mz_label(width: usize, height: usize) -> MzLabel
     ensures { result ≡ whole_label width height }
 {
     MzLabel {
@@ -134,13 +133,7 @@ pub extern "C" fn mz_label(width: usize, height: usize) -> MzLabel
 }
 
 // Draws a label's band into the mask.
-#[unsafe(no_mangle)]
-pub extern "C" fn mz_draw(
-    list: &[u8],
-    label: MzLabel,
-    mask: &mut [u8],
-    words: &mut [u32],
-) -> MzDrawn
+pub fn mz_draw(list: &[u8], label: MzLabel, mask: &mut [u8], words: &mut [u32]) -> MzDrawn
     ensures { left result mask.new words.new
         ≡ draw (label_of label) list.now mask.old words.old }
 {
@@ -148,8 +141,7 @@ pub extern "C" fn mz_draw(
 }
 
 // Draws the same in bands of `step` rows, with less room.
-#[unsafe(no_mangle)]
-pub extern "C" fn mz_draw_in_bands(
+pub fn mz_draw_in_bands(
     list: &[u8],
     label: MzLabel,
     step: usize,
@@ -165,16 +157,14 @@ pub extern "C" fn mz_draw_in_bands(
 // ---- where a list lies
 
 // The box of a list's transformed points.
-#[unsafe(no_mangle)]
-pub extern "C" fn mz_bounds(list: &[u8], transform: MzTransform) -> MzBounds
+pub fn mz_bounds(list: &[u8], transform: MzTransform) -> MzBounds
     ensures { result ≡ bounds_of (out_of_c transform) list.now }
 {
     paper::bounds(list, transform_of(transform))
 }
 
 // Where the mask of a list lies, and its size.
-#[unsafe(no_mangle)]
-pub extern "C" fn mz_placement(
+pub fn mz_placement(
     list: &[u8],
     transform: MzTransform,
     offset_x: f32,
@@ -193,71 +183,61 @@ pub extern "C" fn mz_placement(
 
 // ---- transforms
 
-#[unsafe(no_mangle)]
-pub extern "C" fn mz_identity() -> MzTransform
+pub fn mz_identity() -> MzTransform
     ensures { result ≡ in_c identity }
 {
     mz_transform(Transform::identity())
 }
 
-#[unsafe(no_mangle)]
-pub extern "C" fn mz_translation(x: f32, y: f32) -> MzTransform
+pub fn mz_translation(x: f32, y: f32) -> MzTransform
     ensures { result ≡ in_c (translation x y) }
 {
     mz_transform(Transform::translation(x, y))
 }
 
-#[unsafe(no_mangle)]
-pub extern "C" fn mz_scale(x: f32, y: f32) -> MzTransform
+pub fn mz_scale(x: f32, y: f32) -> MzTransform
     ensures { result ≡ in_c (scale x y) }
 {
     mz_transform(Transform::scale(x, y))
 }
 
-#[unsafe(no_mangle)]
-pub extern "C" fn mz_then(t: MzTransform, next: MzTransform) -> MzTransform
+pub fn mz_then(t: MzTransform, next: MzTransform) -> MzTransform
     ensures { result ≡ in_c (combine (out_of_c t) (out_of_c next)) }
 {
     mz_transform(transform_of(t).then(transform_of(next)))
 }
 
-#[unsafe(no_mangle)]
-pub extern "C" fn mz_then_scale(t: MzTransform, x: f32, y: f32) -> MzTransform
+pub fn mz_then_scale(t: MzTransform, x: f32, y: f32) -> MzTransform
     ensures { result ≡ in_c (combine (out_of_c t) (scale x y)) }
 {
     mz_transform(transform_of(t).then_scale(x, y))
 }
 
-#[unsafe(no_mangle)]
-pub extern "C" fn mz_then_translate(t: MzTransform, x: f32, y: f32) -> MzTransform
+pub fn mz_then_translate(t: MzTransform, x: f32, y: f32) -> MzTransform
     ensures { result ≡ in_c (then_translate (out_of_c t) x y) }
 {
     mz_transform(transform_of(t).then_translate(x, y))
 }
 
-#[unsafe(no_mangle)]
-pub extern "C" fn mz_pre_scale(t: MzTransform, x: f32, y: f32) -> MzTransform
+pub fn mz_pre_scale(t: MzTransform, x: f32, y: f32) -> MzTransform
     ensures { result ≡ in_c (combine (scale x y) (out_of_c t)) }
 {
     mz_transform(transform_of(t).pre_scale(x, y))
 }
 
-#[unsafe(no_mangle)]
-pub extern "C" fn mz_pre_translate(t: MzTransform, x: f32, y: f32) -> MzTransform
+pub fn mz_pre_translate(t: MzTransform, x: f32, y: f32) -> MzTransform
     ensures { result ≡ in_c (combine (translation x y) (out_of_c t)) }
 {
     mz_transform(transform_of(t).pre_translate(x, y))
 }
 
-#[unsafe(no_mangle)]
-pub extern "C" fn mz_transform_point(t: MzTransform, x: f32, y: f32) -> MzPoint
+pub fn mz_transform_point(t: MzTransform, x: f32, y: f32) -> MzPoint
     ensures { result ≡ point_in_c (moved (out_of_c t) (point_of x y)) }
 {
     mz_point(transform_of(t).transform_point(Point::new(x, y)))
 }
 
-#[unsafe(no_mangle)]
-pub extern "C" fn mz_transform_vector(t: MzTransform, x: f32, y: f32) -> MzPoint
+pub fn mz_transform_vector(t: MzTransform, x: f32, y: f32) -> MzPoint
     ensures { result ≡ point_in_c (moved_vector (out_of_c t) (point_of x y)) }
 {
     mz_point(transform_of(t).transform_vector(Point::new(x, y)))

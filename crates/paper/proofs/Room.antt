@@ -22,7 +22,7 @@ use Rattle.label.specs.Draw.{room_for}
 use Rattle.paper.specs.TurnedAway.{most_pixels}
 use Rattle.paper.specs.Floats.{Spot}
 use Rattle.paper.specs.Lines.{Mark, enter, give}
-use Rattle.paper.specs.Numbers.{+0, ◌==◌}
+use Rattle.paper.specs.Numbers.{+0, ◌==ᶻ◌}
 use Rattle.paper.specs.Cells.{spot_in, marks_by, Pair, pair_at, Pen, lifted, within, given, inside, counted, keep, leave, trail, pen_after, stored, corner, cells_of, stored_by, cells_by, distinct}
 use Rattle.paper.specs.Drawing.{pool, fitting, record_of}
 use Rattle.paper.specs.Demands.{places_of, TooMany, RunsOut}
@@ -41,7 +41,7 @@ keep_append l d ds es = cond_append (inside l d) (counted d ∷ ds) ds es
 leave_append : (l : Label) (p : Pen) (ds es : List Pair) → leave l p (ds ++ es) ≡ leave l p ds ++ es
 leave_append l lifted ds es = refl
 leave_append l (within d) ds es =
-    let none = d.cover == +0 && d.area == +0 in
+    let none = d.cover ==ᶻ +0 && d.area ==ᶻ +0 in
     ap (cond none (ds ++ es)) (keep_append l d ds es) ∙ cond_append none ds (keep l d ds) es
 
 trail_append : (l : Label) (p : Pen) (ms ns : List Mark) → trail l p (ms ++ ns) ≡ trail l p ms ++ trail l (pen_after p ms) ns

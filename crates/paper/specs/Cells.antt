@@ -5,7 +5,7 @@ use Rattle.geometry.specs.declared.Point.{Point}
 use Rattle.command.specs.declared.Command.{Command}
 use Rattle.command.specs.declared.Command.TheVariants.{MoveTo, LineTo, QuadTo, CurveTo, Close}
 use Rattle.label.specs.declared.Label.{Label}
-use Rattle.paper.specs.Numbers.{−1, +0, ◌+◌, ◌<◌, ◌≤◌, ◌==◌, wrapped}
+use Rattle.paper.specs.Numbers.{−1, +0, ◌+ᶻ◌, ◌<ᶻ◌, ◌≤ᶻ◌, ◌==ᶻ◌, wrapped}
 use Rattle.paper.specs.Floats.{moved, shifted, fixed_of, Spot, cell}
 use Rattle.paper.specs.Lines.{Mark, enter, give, line}
 use Rattle.paper.specs.Curves.{quad, cubic}
@@ -45,20 +45,20 @@ pub data Pen : Type 0 where  -- where the pen is: in no cell yet, or in one
 
 abbrev pub given : Pen → ℤ → ℤ → Pen  -- what is given is added up, in 32 bits with a sign
 given lifted v a = lifted
-given (within d) v a = within (pair_at d.column d.row (wrapped (d.cover + v)) (wrapped (d.area + a)))
+given (within d) v a = within (pair_at d.column d.row (wrapped (d.cover +ᶻ v)) (wrapped (d.area +ᶻ a)))
 
 abbrev pub inside : Label → Pair → Bool  -- left of the right edge, and in a row of the band
-inside l d = d.column < pos l.width && pos l.first ≤ d.row && d.row < pos l.end
+inside l d = d.column <ᶻ pos l.width && pos l.first ≤ᶻ d.row && d.row <ᶻ pos l.end
 
 abbrev pub counted : Pair → Pair  -- all cells to the left of column −1 count as column −1
-counted d = pair_at (cond (d.column < −1) −1 d.column) d.row d.cover d.area
+counted d = pair_at (cond (d.column <ᶻ −1) −1 d.column) d.row d.cover d.area
 
 abbrev pub keep : Label → Pair → List Pair → List Pair  -- only what is inside is stored
 keep l d ds = cond (inside l d) (counted d ∷ ds) ds
 
 abbrev pub leave : Label → Pen → List Pair → List Pair  -- a cell that is left is stored, unless cover and area are 0
 leave l lifted ds = ds
-leave l (within d) ds = cond (d.cover == +0 && d.area == +0) ds (keep l d ds)
+leave l (within d) ds = cond (d.cover ==ᶻ +0 && d.area ==ᶻ +0) ds (keep l d ds)
 
 abbrev pub finish : Label → Pen → List Pair  -- the last cell is stored even then
 finish l lifted = []
@@ -96,7 +96,7 @@ cells_by l cs = stored_by l lifted (marks_by l corner corner cs)
 
 unfoldable pub known : List Pair → Pair → Bool  -- a place is a column and a row
 known [] d = false
-known (e ∷ es) d = (d.column == e.column && d.row == e.row) || known es d
+known (e ∷ es) d = (d.column ==ᶻ e.column && d.row ==ᶻ e.row) || known es d
 
 unfoldable pub distinct : List Pair → ℕ  -- how many places were stored into
 distinct [] = 0

@@ -6,7 +6,7 @@ use Rattle.std.specs.Float.Ieee.{up, down}
 use Rattle.std.specs.Float.Ieee.Scale.{finite}
 use Rattle.geometry.specs.declared.Point.{Point}
 use Rattle.geometry.specs.declared.Transform.{Transform}
-use Rattle.paper.specs.Numbers.{◌+◌, ◌*◌, +0}
+use Rattle.paper.specs.Numbers.{◌+ᶻ◌, ◌*ᶻ◌, +0}
 use Rattle.paper.specs.Floats.{◌⊕◌, ◌⊗◌, moved, scale, identity, combine}
 
 -- the float is the whole number z; a zero of either sign is 0
@@ -26,10 +26,10 @@ SamePoint p q = Same p.x q.x × Same p.y q.y
 
 -- ---- exactness, by values: of two whole numbers the float is the product, the sum
 abbrev pub ExactProduct : Float → Float → Type 0
-ExactProduct u v = (x y : ℤ) → Is u x → Is v y → Is (u ⊗ v) (x * y)
+ExactProduct u v = (x y : ℤ) → Is u x → Is v y → Is (u ⊗ v) (x *ᶻ y)
 
 abbrev pub ExactSum : Float → Float → Type 0
-ExactSum u v = (x y : ℤ) → Is u x → Is v y → Is (u ⊕ v) (x + y)
+ExactSum u v = (x y : ℤ) → Is u x → Is v y → Is (u ⊕ v) (x +ᶻ y)
 
 abbrev pub ExactPair : Float → Float → Float → Float → Type 0  -- x·a + y·b: both products, and their sum
 ExactPair x a y b = ExactProduct x a × ExactProduct y b × ExactSum (x ⊗ a) (y ⊗ b)

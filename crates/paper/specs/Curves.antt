@@ -1,26 +1,26 @@
 -- docs/RULES.md, "Lines, curves, cells": quads and cubics, by the points to which their lines go.
 use Rattle.std.specs.Prelude.{ℕ, zero, suc, max, ◌/◌ as ◌/ℕ◌, Bool, true, false, cond, ◌&&◌, ◌||◌, List, [], ◌∷◌, ◌++◌, ltb, ℤ, nat_abs}
 use Rattle.label.specs.declared.Label.{Label}
-use Rattle.paper.specs.Numbers.{◌+◌, ◌-◌, ◌·◌, ◌/◌}
+use Rattle.paper.specs.Numbers.{◌+ᶻ◌, ◌-ᶻ◌, ◌·◌, ◌/ᶻ◌}
 use Rattle.paper.specs.Steps.{most_doublings, most_splits}
 use Rattle.paper.specs.Floats.{Spot}
 use Rattle.paper.specs.Lines.{Mark, past, ahead, line}
 
 -- the points of a split: means of 2, 3 and 4 points, weighted, each one sum that is divided once and rounded down
 abbrev pub mid : Spot → Spot → Spot
-mid a b = record { x = (a.x + b.x) / 2; y = (a.y + b.y) / 2 }
+mid a b = record { x = (a.x +ᶻ b.x) /ᶻ 2; y = (a.y +ᶻ b.y) /ᶻ 2 }
 
 abbrev pub mid4 : Spot → Spot → Spot → Spot
-mid4 a b c = record { x = (a.x + 2 · b.x + c.x) / 4; y = (a.y + 2 · b.y + c.y) / 4 }
+mid4 a b c = record { x = (a.x +ᶻ 2 · b.x +ᶻ c.x) /ᶻ 4; y = (a.y +ᶻ 2 · b.y +ᶻ c.y) /ᶻ 4 }
 
 abbrev pub mid8 : Spot → Spot → Spot → Spot → Spot
 mid8 a b c d = record {
-  x = (a.x + 3 · b.x + 3 · c.x + d.x) / 8;
-  y = (a.y + 3 · b.y + 3 · c.y + d.y) / 8;
+  x = (a.x +ᶻ 3 · b.x +ᶻ 3 · c.x +ᶻ d.x) /ᶻ 8;
+  y = (a.y +ᶻ 3 · b.y +ᶻ 3 · c.y +ᶻ d.y) /ᶻ 8;
 }
 
 abbrev pub bend : Spot → Spot → Spot → ℕ  -- how far a quad's control point c is off, on the worse axis
-bend a c b = max (nat_abs (a.x + b.x - 2 · c.x)) (nat_abs (a.y + b.y - 2 · c.y))
+bend a c b = max (nat_abs (a.x +ᶻ b.x -ᶻ 2 · c.x)) (nat_abs (a.y +ᶻ b.y -ᶻ 2 · c.y))
 
 -- a quad starts as one line; while the bend is above 64 it is quartered and the lines double: how often
 unfoldable pub doublings : ℕ → ℕ → ℕ
@@ -33,7 +33,7 @@ quad_points zero a c b = b ∷ []
 quad_points (suc n) a c b = quad_points n a (mid a c) (mid4 a c b) ++ quad_points n (mid4 a c b) (mid c b) b
 
 abbrev pub bent : ℤ → ℤ → ℤ → ℤ → Bool  -- a cubic is not flat on an axis
-bent p0 p1 p2 p3 = ltb 128 (nat_abs (2 · p0 - 3 · p1 + p3)) || ltb 128 (nat_abs (p0 - 3 · p2 + 2 · p3))
+bent p0 p1 p2 p3 = ltb 128 (nat_abs (2 · p0 -ᶻ 3 · p1 +ᶻ p3)) || ltb 128 (nat_abs (p0 -ᶻ 3 · p2 +ᶻ 2 · p3))
 
 unfoldable pub curved : Spot → Spot → Spot → Spot → Bool  -- on either axis
 curved p0 p1 p2 p3 = bent p0.x p1.x p2.x p3.x || bent p0.y p1.y p2.y p3.y

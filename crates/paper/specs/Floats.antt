@@ -6,7 +6,7 @@ use Rattle.std.specs.Float.Ieee.Scale.{finite}
 use Rattle.geometry.specs.declared.Point.{Point}
 use Rattle.geometry.specs.declared.Transform.{Transform}
 use Rattle.command.specs.declared.Command.{Command}
-use Rattle.paper.specs.Numbers.{◌-◌, ◌·◌, ◌/◌, +0}
+use Rattle.paper.specs.Numbers.{◌-ᶻ◌, ◌·◌, ◌/ᶻ◌, +0}
 use Rattle.paper.specs.PathList.{points_of}
 
 -- a sum and a product of binary32 floats, each rounded once, to the nearest, ties to even
@@ -66,10 +66,10 @@ abbrev pub passes : Point → Bool  -- the point rule: both parts are near
 passes p = near p.x && near p.y
 
 abbrev pub cell : ℤ → ℤ  -- the column or row in which a 24.8 number lies
-cell z = z / 256
+cell z = z /ᶻ 256
 
 abbrev pub fraction : ℤ → ℤ  -- how far in, from 0 to 255
-fraction z = z - 256 · cell z
+fraction z = z -ᶻ 256 · cell z
 
 abbrev pub zero : Float
 zero = of_bits binary32 0

@@ -14,33 +14,33 @@ abbrev pub +1 : ℤ
 abbrev pub +256 : ℤ
 +256 = pos 256
 
-infixl 65 ◌+◌ ◌-◌
-abbrev pub ◌+◌ : ℤ → ℤ → ℤ
-a + b = a +ℤ b
+infixl 65 ◌+ᶻ◌ ◌-ᶻ◌
+abbrev pub ◌+ᶻ◌ : ℤ → ℤ → ℤ
+a +ᶻ b = a +ℤ b
 
-abbrev pub ◌-◌ : ℤ → ℤ → ℤ
-a - b = a -ℤ b
+abbrev pub ◌-ᶻ◌ : ℤ → ℤ → ℤ
+a -ᶻ b = a -ℤ b
 
-infixl 70 ◌*◌ ◌·◌ ◌/◌
-abbrev pub ◌*◌ : ℤ → ℤ → ℤ
-a * b = a *ℤ b
+infixl 70 ◌*ᶻ◌ ◌·◌ ◌/ᶻ◌
+abbrev pub ◌*ᶻ◌ : ℤ → ℤ → ℤ
+a *ᶻ b = a *ℤ b
 
 abbrev pub ◌·◌ : ℕ → ℤ → ℤ  -- so many times
 n · a = pos n *ℤ a
 
-abbrev pub ◌/◌ : ℤ → ℕ → ℤ  -- divided, rounded down
-a / n = shr_z a n
+abbrev pub ◌/ᶻ◌ : ℤ → ℕ → ℤ  -- divided, rounded down
+a /ᶻ n = shr_z a n
 
-infix 50 ◌<◌ ◌≤◌ ◌==◌
-abbrev pub ◌<◌ : ℤ → ℤ → Bool
-a < b = lt_z a b
+infix 50 ◌<ᶻ◌ ◌≤ᶻ◌ ◌==ᶻ◌
+abbrev pub ◌<ᶻ◌ : ℤ → ℤ → Bool
+a <ᶻ b = lt_z a b
 
-abbrev pub ◌≤◌ : ℤ → ℤ → Bool
-a ≤ b = le_z a b
+abbrev pub ◌≤ᶻ◌ : ℤ → ℤ → Bool
+a ≤ᶻ b = le_z a b
 
-abbrev pub ◌==◌ : ℤ → ℤ → Bool
-a == b = eqb (nat_abs (a - b)) 0
+abbrev pub ◌==ᶻ◌ : ℤ → ℤ → Bool
+a ==ᶻ b = eqb (nat_abs (a -ᶻ b)) 0
 
 -- a number kept in 32 bits with a sign: the one from −2^31 to 2^31 − 1 that differs from it by a multiple of 2^32
 unfoldable pub wrapped : ℤ → ℤ
-wrapped a = a - 2 ^ 32 · ((a + pos (2 ^ 31)) / 2 ^ 32)
+wrapped a = a -ᶻ 2 ^ 32 · ((a +ᶻ pos (2 ^ 31)) /ᶻ 2 ^ 32)

@@ -10,7 +10,7 @@ use Rattle.geometry.specs.declared.Origin.TheVariants.{TopLeft, BottomLeft}
 use Rattle.command.specs.declared.Command.{Command}
 use Rattle.placing.specs.declared.BoxNumbers.{BoxNumbers}
 use Rattle.placing.specs.declared.PlaceNumbers.{PlaceNumbers}
-use Rattle.paper.specs.Numbers.{+0, ◌+◌, ◌-◌, ◌/◌}
+use Rattle.paper.specs.Numbers.{+0, ◌+ᶻ◌, ◌-ᶻ◌, ◌/ᶻ◌}
 use Rattle.paper.specs.Floats.{shifted, points_in, cut_in, passes, zero}
 use Rattle.paper.specs.TurnedAway.{Read, path, faulty, read_list}
 
@@ -57,7 +57,7 @@ bounds t s =
 unfoldable pub floor : Float → ℤ
 floor nan = +0
 floor (inf sign) = +0
-floor (fin sign m e) = let n = pos (m *ℕ up e) in cond sign (neg_ℤ n) n / down e
+floor (fin sign m e) = let n = pos (m *ℕ up e) in cond sign (neg_ℤ n) n /ᶻ down e
 
 abbrev pub ceil : Float → ℤ  -- rounded up
 ceil v = neg_ℤ (floor (neg v))
@@ -72,11 +72,11 @@ abbrev pub negated : Float → Float
 negated v = neg (cond (whole v) v (of_int binary32 (floor v)))
 
 abbrev pub extent : Float → Float → ℕ  -- width or height
-extent a b = elim (ceil b - floor a) [ pos n ↦ n | negsuc n ↦ 0 ]
+extent a b = elim (ceil b -ᶻ floor a) [ pos n ↦ n | negsuc n ↦ 0 ]
 
 abbrev pub raised : Origin → ℤ → ℕ → ℤ  -- the top: for a bottom-left origin it lies the height further
 raised TopLeft y h = y
-raised BottomLeft y h = y + pos h
+raised BottomLeft y h = y +ᶻ pos h
 
 -- for the minimum a, the maximum b and so many cut coordinates
 abbrev pub laid : Origin → Point → Point → ℕ → PlaceNumbers

@@ -8,7 +8,7 @@ use Rattle.command.specs.declared.Command.{Command}
 use Rattle.command.specs.declared.Command.TheVariants.{MoveTo, LineTo, QuadTo, CurveTo, Close}
 use Rattle.sweep.specs.declared.Fill.TheVariants.{NonZero, EvenOdd}
 use Rattle.label.specs.declared.Label.{Label}
-use Rattle.paper.specs.Numbers.{◌/◌, wrapped}
+use Rattle.paper.specs.Numbers.{◌/ᶻ◌, wrapped}
 use Rattle.paper.specs.Steps.{most_doublings, most_splits}
 use Rattle.paper.specs.PathList.{four, length_of, command_in}
 use Rattle.paper.specs.Floats.{Spot, moved, shifted, combine, then_translate, translation, scale, identity}
@@ -89,8 +89,8 @@ pub record Values : Type 0 where
       × (wrapped (below 2147483649) ≡ pos 2147483647) × (wrapped (pos 4294967301) ≡ pos 5)
   -- rounded down
   pub divides :
-      (pos 511 / 256 ≡ pos 1) × (pos 512 / 256 ≡ pos 2) × (below 1 / 256 ≡ below 1) × (below 256 / 256 ≡ below 1)
-      × (below 257 / 256 ≡ below 2)
+      (pos 511 /ᶻ 256 ≡ pos 1) × (pos 512 /ᶻ 256 ≡ pos 2) × (below 1 /ᶻ 256 ≡ below 1) × (below 256 /ᶻ 256 ≡ below 1)
+      × (below 257 /ᶻ 256 ≡ below 2)
   -- ---- the path list
   pub lengths : (length_of 1 ≡ 10) × (length_of 2 ≡ 10) × (length_of 3 ≡ 18) × (length_of 4 ≡ 26) × (length_of 5 ≡ 2)
   -- MoveTo (1,2), LineTo (1,2), QuadTo (1,2) (3,4), CurveTo (1,2) (3,4) (5,6), Close
