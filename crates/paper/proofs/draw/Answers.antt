@@ -1,0 +1,7 @@
+-- What `label` promises, in the paper's words.
+use Rattle.paper.proofs.Draws.{call_draws}
+use borrow.Author.Rules.{rules}
+use Rattle.paper.proofs.draw.Goals as goal
+
+pub returns : goal.returns
+returns c = call_draws _ _ _ _ _ _ _ _ c.numbers_of.ensures c.draw.ensures
