@@ -1,0 +1,9 @@
+-- A pair outside stores nothing, and `store` promises the rest.
+use native.Mathlib.Omega.{arith}
+use borrow.Author.Rules.{rules}
+use Rattle.probe.proofs.Stores.{below, beside, inside}
+use Rattle.probe.proofs.store_pair.Goals as goal
+
+pub returns : goal.returns
+returns c =
+    inside _ _ _ c.if-rows-row.false c.if-column-ge-PER_ROW.false c.store.ensures
