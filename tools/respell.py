@@ -5,7 +5,7 @@ usage: tools/respell.py [--say]      at the top of the repository, once, after p
 
 placeAt, link-word  ->  place_at, link_word
 
-A name counts as ours where a file of specs/, or a file of proofs/ outside a function's folder, declares it. Functions of src/, exported
+A name counts as ours where a file of specs/, or a file of proofs/ outside a function's folder, declares it, at its margin or inside a module. Functions of src/, exported
 names, strings, inputs and outputs are left alone. In comments and pages only a name with a capital inside is respelled: a hyphen there may be prose.
 """
 
@@ -18,6 +18,7 @@ import sys
 TOKEN = re.compile(r"[^\s(){}.;,@\"«»\[\]\\`]+")
 DECLARED = re.compile(r"^(?:pub |abbrev |unfoldable |mutual )*(?!use |mod |--)([^\s:(){}=]+)(?:\s+[({][^=]*?)?\s*:(?:\s|$)")
 FIELD = re.compile(r"^\s+(?:pub )?([^\s:(){}=|]+)\s*:\s")
+NESTED = re.compile(r"^\s+(?:pub )?([^\s:(){}=|]+)(?:\s+[({][^=]*?)?\s*:\s")
 CAMEL = re.compile(r"^[a-z][a-z0-9]*(?:[A-Z][A-Za-z0-9]*)+'*$")
 HYPHEN = re.compile(r"(?<=[\w'⊖ℤ])-(?=\w)")
 
@@ -29,7 +30,7 @@ def snake(name):
 
 
 # What falls together with a definition that had today's spelling already, or now gets the spelling of a lemma that had it.
-FALLEN = {n: n.replace("-", "_") + "_is" for n in "answer-of at-once byte-at is-move line-of points-of all_pass box_of cut_parts".split()}
+FALLEN = {n: n.replace("-", "_") + "_is" for n in "answer-of at-once byte-at is-move line-of points-of all_pass box_of cut_parts add-up all-ahead drawn-from ink-from one-full".split()}
 
 
 def ours():
@@ -44,7 +45,7 @@ def ours():
                 record = False
                 it = DECLARED.match(line)
             else:
-                it = FIELD.match(line) if record else None
+                it = FIELD.match(line) if record else NESTED.match(line) if "/proofs/" in path else None
             if it:
                 names.add(it.group(1))
     return {n for n in names if n[:1].islower() and (CAMEL.match(n) or HYPHEN.search(n)) or n[:1] in "⊖+" and HYPHEN.search(n)}

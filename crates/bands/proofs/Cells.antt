@@ -12,8 +12,8 @@ use Rattle.label.specs.Draw.{log_of}
 use Rattle.label.specs.Inking.{Sized}
 use Rattle.claims.specs.Parts.{band}
 use Rattle.claims.specs.Bands.{band_of, whole_of}
-use Rattle.claims.proofs.Parts.{part-part, distinct_join}
-use Rattle.claims.proofs.Rows.{pixel-band}
+use Rattle.claims.proofs.Parts.{part_part, distinct_join}
+use Rattle.claims.proofs.Rows.{pixel_band}
 use Rattle.claims.proofs.Bands.{log_band}
 
 -- a band of a band
@@ -21,7 +21,7 @@ band_band : (first end a b : ℕ) → first ≤ a → b ≤ end → a ≤ b → 
 band_band first end a b p q r log =
     let lo : per_row * first + per_row * (a - first) ≡ per_row * a = omega arith in
     let hi : per_row * first + per_row * (b - first) ≡ per_row * b = omega arith in
-    rw (lo, hi) at (part-part (per_row * first) (per_row * end) (per_row * (a - first)) (per_row * (b - first)) (omega arith) log)
+    rw (lo, hi) at (part_part (per_row * first) (per_row * end) (per_row * (a - first)) (per_row * (b - first)) (omega arith) log)
 
 module _ (l : Label) (z : Sized l) (cs : List Command) where
   abbrev log : List Deposit
@@ -34,24 +34,24 @@ module _ (l : Label) (z : Sized l) (cs : List Command) where
   own = log_band l narrow cs l.first l.end z.inside
 
   module _ (a b : ℕ) (from : l.first ≤ a) (ordered : a ≤ b) (to : b ≤ l.end) where
-    pub sub-log : log_of (band_of l a b) cs ≡ band (a - l.first) (b - l.first) log
-    sub-log =
+    pub sub_log : log_of (band_of l a b) cs ≡ band (a - l.first) (b - l.first) log
+    sub_log =
         log_band l narrow cs a b (omega (arith, z.inside))
         ∙ sym (band_band l.first l.end a b from to ordered (log_of (whole_of l) cs))
         ∙ ap (band (a - l.first) (b - l.first)) (sym own)
 
     -- ---- cells: those above the band and its own are those above its end
-    pub more-cells : distinct (band 0 (a - l.first) log) + distinct (log_of (band_of l a b) cs) ≡ distinct (band 0 (b - l.first) log)
-    more-cells =
-        ap (λ (n : ℕ). distinct (band 0 (a - l.first) log) + n) (ap distinct sub-log)
+    pub more_cells : distinct (band 0 (a - l.first) log) + distinct (log_of (band_of l a b) cs) ≡ distinct (band 0 (b - l.first) log)
+    more_cells =
+        ap (λ (n : ℕ). distinct (band 0 (a - l.first) log) + n) (ap distinct sub_log)
         ∙ distinct_join (per_row * 0) (per_row * (a - l.first)) (per_row * (b - l.first)) (omega arith) (omega arith) log
 
     -- ---- a pixel
-    pub sub-pixel : (y x : ℕ) → a ≤ y → y < b → x < l.width → pixel l.fill (log_of (band_of l a b) cs) (y - a) x ≡ pixel l.fill log (y - l.first) x
-    sub-pixel y x p q r =
+    pub sub_pixel : (y x : ℕ) → a ≤ y → y < b → x < l.width → pixel l.fill (log_of (band_of l a b) cs) (y - a) x ≡ pixel l.fill log (y - l.first) x
+    sub_pixel y x p q r =
         let e : a - l.first + (y - a) ≡ y - l.first = omega arith in
-        ap (λ (ds : List Deposit). pixel l.fill ds (y - a) x) sub-log
-        ∙ pixel-band (a - l.first) (b - l.first) (y - a) x (omega arith) (omega (arith, narrow)) log l.fill
+        ap (λ (ds : List Deposit). pixel l.fill ds (y - a) x) sub_log
+        ∙ pixel_band (a - l.first) (b - l.first) (y - a) x (omega arith) (omega (arith, narrow)) log l.fill
         ∙ ap (λ (n : ℕ). pixel l.fill log n x) e
 
   pub no_cells : distinct (band 0 (l.first - l.first) log) ≡ 0
@@ -61,7 +61,7 @@ module _ (l : Label) (z : Sized l) (cs : List Command) where
       let n : distinct (band 0 0 log) ≡ 0 = omega arith in
       ap (λ (n : ℕ). distinct (band 0 n log)) e ∙ n
 
-  pub all-cells : distinct (band 0 (l.end - l.first) log) ≡ distinct log
-  all-cells =
+  pub all_cells : distinct (band 0 (l.end - l.first) log) ≡ distinct log
+  all_cells =
       let e : l.first - l.first ≡ 0 = omega arith in
-      ap distinct (sym (rw e at (sub-log l.first l.end (omega arith) z.ordered (omega arith))))
+      ap distinct (sym (rw e at (sub_log l.first l.end (omega arith) z.ordered (omega arith))))

@@ -20,8 +20,8 @@ use Rattle.claims.specs.Parts.{band}
 use Rattle.claims.specs.Bands.{band_of}
 use Rattle.bands.specs.InBands.{band_end, too_many_from, too_many_in_band, room_from, room_in_band}
 use Rattle.bands.specs.Steps.{Reads, Counted}
-use Rattle.bands.proofs.Cells.{more-cells, no_cells, all-cells}
-use Rattle.bands.proofs.Rows.{none-behind, one-band, one-room}
+use Rattle.bands.proofs.Cells.{more_cells, no_cells, all_cells}
+use Rattle.bands.proofs.Rows.{none_behind, one_band, one_room}
 
 pub record Counting (l : Label) (step : ℕ) (s : List ℕ) (words at total : ℕ) : Type 0 where
   pub from : l.first ≤ at
@@ -34,8 +34,8 @@ pub record Counting (l : Label) (step : ℕ) (s : List ℕ) (words at total : �
   pub counted : (cs : List Command) → Reads l s cs → total ≡ distinct (band 0 (at - l.first) (log_of l cs))
 
 module _ (l : Label) (z : Sized l) (step : ℕ) (s : List ℕ) (words : ℕ) where
-  pub counting-none : Counting l step s words l.first 0
-  counting-none = record {
+  pub counting_none : Counting l step s words l.first 0
+  counting_none = record {
     from = omega arith;
     to = z.ordered;
     few = omega arith;
@@ -56,11 +56,11 @@ module _ (l : Label) (z : Sized l) (step : ℕ) (s : List ℕ) (words : ℕ) whe
     module _ (before after : List ℕ) (k : Pool) (long : length before ≡ words) (P : Poured own s before after k) where
       -- a band that does not fit
       module _ (i : ℕ) (f : k ≡ Full i) where
-        runs-out : (cs : List Command) → Reads l s cs → (pool_of own words < distinct (log_of own cs)) × (i ≡ room_for own words cs)
-        runs-out cs e = rw (f, long) at (P.stored cs e)
+        runs_out_is : (cs : List Command) → Reads l s cs → (pool_of own words < distinct (log_of own cs)) × (i ≡ room_for own words cs)
+        runs_out_is cs e = rw (f, long) at (P.stored cs e)
 
         yes : (cs : List Command) → Reads l s cs → too_many own words cs ≡ true
-        yes cs e = lt-ltb _ _ (runs-out cs e).0
+        yes cs e = lt-ltb _ _ (runs_out_is cs e).0
 
         early : i ≤ length s
         early = rw f at P.within
@@ -68,13 +68,13 @@ module _ (l : Label) (z : Sized l) (step : ℕ) (s : List ℕ) (words : ℕ) whe
         same_index : (i' : ℕ) → Full i ≡ Full i' → i' ≡ i
         same_index i' e = cc
 
-        pub counted-full : Counted l step s words (Full i)
-        counted-full = record {
+        pub counted_full : Counted l step s words (Full i)
+        counted_full = record {
           full = λ i' q cs e.
-              C.same cs e ∙ one-band l step words cs at inner C.fuel (omega (arith, C.enough)) ∙ rw (yes cs e);
+              C.same cs e ∙ one_band l step words cs at inner C.fuel (omega (arith, C.enough)) ∙ rw (yes cs e);
           named = λ i' q cs e.
-              same_index i' q ∙ (runs-out cs e).1
-              ∙ sym (C.named cs e ∙ one-room l step words cs at inner C.fuel (omega (arith, C.enough)) ∙ rw (yes cs e));
+              same_index i' q ∙ (runs_out_is cs e).1
+              ∙ sym (C.named cs e ∙ one_room l step words cs at inner C.fuel (omega (arith, C.enough)) ∙ rw (yes cs e));
           early = λ i' q. let p = same_index i' q in omega (arith, early);
           fit = λ n e. absurd (let z : ◌≡◌ {A = ℕ} 0 1 = cc in omega arith);
           counted = λ n e. absurd (let z : ◌≡◌ {A = ℕ} 0 1 = cc in omega arith);
@@ -92,8 +92,8 @@ module _ (l : Label) (z : Sized l) (step : ℕ) (s : List ℕ) (words : ℕ) whe
         small : n ≤ pool_of own words
         small = rw (f, long) at P.within
 
-        it-fits : (cs : List Command) → Reads l s cs → too_many own words cs ≡ false
-        it-fits cs e = let c = count cs e in le-ltb _ _ (rw c at small)
+        it_fits : (cs : List Command) → Reads l s cs → too_many own words cs ≡ false
+        it_fits cs e = let c = count cs e in le-ltb _ _ (rw c at small)
 
         pub counting_more : Counting l step s words (band_end step at l.end) (total + n)
         counting_more = record {
@@ -102,26 +102,26 @@ module _ (l : Label) (z : Sized l) (step : ℕ) (s : List ℕ) (words : ℕ) whe
           few = omega (arith, C.few, C.from, small);
           fuel = C.fuel - 1;
           enough = omega (arith, C.enough);
-          same = λ cs e. C.same cs e ∙ one-band l step words cs at inner C.fuel (omega (arith, C.enough)) ∙ rw (it-fits cs e);
-          named = λ cs e. C.named cs e ∙ one-room l step words cs at inner C.fuel (omega (arith, C.enough)) ∙ rw (it-fits cs e);
+          same = λ cs e. C.same cs e ∙ one_band l step words cs at inner C.fuel (omega (arith, C.enough)) ∙ rw (it_fits cs e);
+          named = λ cs e. C.named cs e ∙ one_room l step words cs at inner C.fuel (omega (arith, C.enough)) ∙ rw (it_fits cs e);
           counted = λ cs e.
               let a = C.counted cs e in
               let b = count cs e in
-              let c = more-cells l z cs at next C.from (omega arith) (omega arith) in
+              let c = more_cells l z cs at next C.from (omega arith) (omega arith) in
               omega arith;
         }
 
   module _ (at total : ℕ) (C : Counting l step s words at total) (over : l.end ≤ at) where
-    at-end : at ≡ l.end
-    at-end = omega (arith, C.to)
+    at_end : at ≡ l.end
+    at_end = omega (arith, C.to)
 
-    pub counted-all : Counted l step s words (Cells total)
-    counted-all = record {
+    pub counted_all : Counted l step s words (Cells total)
+    counted_all = record {
       full = λ i e. absurd (let z : ◌≡◌ {A = ℕ} 0 1 = cc in omega arith);
       named = λ i e. absurd (let z : ◌≡◌ {A = ℕ} 0 1 = cc in omega arith);
       early = λ i e. absurd (let z : ◌≡◌ {A = ℕ} 0 1 = cc in omega arith);
-      fit = λ n e cs r. C.same cs r ∙ none-behind l step words cs at over C.fuel;
-      counted = λ n e cs r. same_count n e ∙ C.counted cs r ∙ ap (λ (k : ℕ). distinct (band 0 (k - l.first) (log_of l cs))) at-end ∙ all-cells l z cs;
+      fit = λ n e cs r. C.same cs r ∙ none_behind l step words cs at over C.fuel;
+      counted = λ n e cs r. same_count n e ∙ C.counted cs r ∙ ap (λ (k : ℕ). distinct (band 0 (k - l.first) (log_of l cs))) at_end ∙ all_cells l z cs;
       few = λ n e. let q = same_count n e in omega (arith, C.few, C.to, C.from, z.inside, z.low);
     }
       where

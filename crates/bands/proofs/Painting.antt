@@ -16,8 +16,8 @@ use Rattle.storage.specs.Cells.{Holds}
 use Rattle.command.specs.declared.Command.{Command}
 use Rattle.sweep.specs.Masks.{row_at, Swept}
 use Rattle.sweep.specs.Pixels.{pixel}
-use Rattle.sweep.proofs.Lines.{mid-before, mid-inside, mid-behind, mid-long}
-use Rattle.sweep.proofs.Mask.{mask_is, mask-by-bytes}
+use Rattle.sweep.proofs.Lines.{mid_before, mid_inside, mid_behind, mid_long}
+use Rattle.sweep.proofs.Mask.{mask_is, mask_by_bytes}
 use Rattle.path.specs.declared.Pool.{Pool}
 use Rattle.path.specs.declared.Pool.TheVariants.{Cells, Full}
 use Rattle.label.specs.declared.Label.{Label}
@@ -26,11 +26,11 @@ use Rattle.label.specs.Draw.{pool_of, painted_of, log_of, too_many, room_for}
 use Rattle.label.specs.Inking.{Sized, Lent, Poured}
 use Rattle.claims.specs.OldContents.{spot_of}
 use Rattle.claims.specs.Bands.{band_of}
-use Rattle.claims.proofs.Painted.{back, on_line, painted-row, other_byte}
+use Rattle.claims.proofs.Painted.{back, on_line, painted_row, other_byte}
 use Rattle.bands.specs.InBands.{band_end, too_many_from, too_many_in_band}
 use Rattle.bands.specs.Steps.{line_of, Reads, BandPainted, Painted}
-use Rattle.bands.proofs.Cells.{sub-pixel}
-use Rattle.bands.proofs.Rows.{one-band, from_bottom, line-in, row_line}
+use Rattle.bands.proofs.Cells.{sub_pixel}
+use Rattle.bands.proofs.Rows.{one_band, from_bottom, line_in, row_line}
 
 -- ---- one band
 -- a pool that is full was too small
@@ -97,26 +97,26 @@ module _ (l : Label) (z : Sized l) (mask : List ℕ) (lines : 0 < rows l → l.p
   size = l.pitch * (b - a - 1) + l.width
 
   -- the band's last line is not behind the label's
-  part-top : low + size ≤ l.pitch * (rows l - 1) + l.width
-  part-top =
-      let k = line-in l a b from (omega arith) to in
+  part_top : low + size ≤ l.pitch * (rows l - 1) + l.width
+  part_top =
+      let k = line_in l a b from (omega arith) to in
       let most : l.pitch * (line_of l a b + (b - a - 1)) ≤ l.pitch * (rows l - 1) = mul-le-mul_left l.pitch (omega arith) in
       omega arith
 
   pub part_in : low + size ≤ length mask
-  part_in = omega (arith, part-top, lines (omega arith))
+  part_in = omega (arith, part_top, lines (omega arith))
 
-  pub part-near : low + size ≤ most_pitch * most_pixels
-  part-near =
+  pub part_near : low + size ≤ most_pitch * most_pixels
+  part_near =
       let far : l.pitch * (rows l - 1) ≤ most_pitch * (most_pixels - 1) = mul-le-mul {m₂ = most_pixels - 1} z.near (omega (arith, z.inside, z.low)) in
-      omega (arith, part-top, z.narrow)
+      omega (arith, part_top, z.narrow)
 
-  pub part-lent : (words : ℕ) → rows l ≤ words → (n : ℕ) → n ≡ size → Lent own n words
-  part-lent words h n e = record { lines = λ g. omega arith; heads = omega arith }
+  pub part_lent : (words : ℕ) → rows l ≤ words → (n : ℕ) → n ≡ size → Lent own n words
+  part_lent words h n e = record { lines = λ g. omega arith; heads = omega arith }
 
   -- a row's byte in the part
-  pub byte-in : (y x : ℕ) → a ≤ y → y < b → byte_of l y x ≡ low + byte_of own y x
-  byte-in y x p q =
+  pub byte_in : (y x : ℕ) → a ≤ y → y < b → byte_of l y x ≡ low + byte_of own y x
+  byte_in y x p q =
       let e = row_line l a b from (omega arith) to y p q in
       let d = ap (λ (n : ℕ). l.pitch * n) e in
       omega arith
@@ -176,28 +176,28 @@ module _ (l : Label) (z : Sized l) (step : ℕ) (positive : 0 < step) (s : List 
       S = P.shown cs e f
 
       two : (too_many mine words cs ≡ false) × (too_many_from (P.fuel - 1) step l words cs next ≡ false)
-      two = neither _ _ (sym (one-band l step words cs at inner P.fuel (omega (arith, P.enough))) ∙ S.rest)
+      two = neither _ _ (sym (one_band l step words cs at inner P.fuel (omega (arith, P.enough))) ∙ S.rest)
 
-      is-painted : new ≡ painted_of mine (log_of mine cs) part
-      is-painted = B.painted cs e (ltb-false _ _ two.0)
+      is_painted : new ≡ painted_of mine (log_of mine cs) part
+      is_painted = B.painted cs e (ltb-false _ _ two.0)
 
-      mine-lines : 0 < rows mine → l.pitch * (rows mine - 1) + l.width ≤ length part
-      mine-lines h = omega arith
+      mine_lines : 0 < rows mine → l.pitch * (rows mine - 1) + l.width ≤ length part
+      mine_lines h = omega arith
 
       new_row : (y x : ℕ) → at ≤ y → y < next → x < l.width → get_or whole (byte_of l y x) 0 ≡ pixel l.fill (log_of l cs) (y - l.first) x
       new_row y x p q r =
-          ap (λ (i : ℕ). get_or whole i 0) (byte-in l z before lines at next P.from (omega arith) (omega arith) y x p q)
-          ∙ mid-inside first count after new fits_in back_long (byte_of mine y x) (byte_fits l z before lines at next P.from (omega arith) (omega arith) y x p q r)
-          ∙ ap (λ (d : List ℕ). get_or d (byte_of mine y x) 0) is-painted
-          ∙ painted-row mine (log_of mine cs) part z.pitched mine-lines (y - at) x (omega arith) r
-          ∙ sub-pixel l z cs at next P.from (omega arith) (omega arith) y x p q r
+          ap (λ (i : ℕ). get_or whole i 0) (byte_in l z before lines at next P.from (omega arith) (omega arith) y x p q)
+          ∙ mid_inside first count after new fits_in back_long (byte_of mine y x) (byte_fits l z before lines at next P.from (omega arith) (omega arith) y x p q r)
+          ∙ ap (λ (d : List ℕ). get_or d (byte_of mine y x) 0) is_painted
+          ∙ painted_row mine (log_of mine cs) part z.pitched mine_lines (y - at) x (omega arith) r
+          ∙ sub_pixel l z cs at next P.from (omega arith) (omega arith) y x p q r
 
       old_row : (y x : ℕ) → l.first ≤ y → y < at → x < l.width → get_or whole (byte_of l y x) 0 ≡ pixel l.fill (log_of l cs) (y - l.first) x
       old_row y x p q r = go (apart l z before lines at next P.from (omega arith) (omega arith) y x p q r) ∙ S.painted y x p q r
         where
           go : (byte_of l y x < first) ⊎ (first + count ≤ byte_of l y x) → get_or whole (byte_of l y x) 0 ≡ get_or after (byte_of l y x) 0
-          go (inl h) = mid-before first count after new fits_in back_long (byte_of l y x) h
-          go (inr h) = mid-behind first count after new fits_in back_long (byte_of l y x) h
+          go (inl h) = mid_before first count after new fits_in back_long (byte_of l y x) h
+          go (inr h) = mid_behind first count after new fits_in back_long (byte_of l y x) h
 
       row : (y x : ℕ) → l.first ≤ y → y < next → x < l.width → Dec (y < at) → get_or whole (byte_of l y x) 0 ≡ pixel l.fill (log_of l cs) (y - l.first) x
       row y x p q r (yes h) = old_row y x p h r
@@ -206,8 +206,8 @@ module _ (l : Label) (z : Sized l) (step : ℕ) (positive : 0 < step) (s : List 
       -- a byte of the part that is no pixel's
       between : (j : ℕ) → j < count → ((y x : ℕ) → l.first ≤ y → y < next → x < l.width → first + j ≡ byte_of l y x → ⊥) → get_or whole (first + j) 0 ≡ get_or after (first + j) 0
       between j g h =
-          mid-inside first count after new fits_in back_long j g
-          ∙ ap (λ (d : List ℕ). get_or d j 0) is-painted
+          mid_inside first count after new fits_in back_long j g
+          ∙ ap (λ (d : List ℕ). get_or d j 0) is_painted
           ∙ other_byte mine (log_of mine cs) part j (omega arith) (λ m x a b u. h (at + row_at l.up (next - at) m) x (omega (arith, P.from)) (omega (arith, on_line l.up (next - at) m a)) b (spot m x a u))
           ∙ ap (λ (d : List ℕ). get_or d j 0) lent
           ∙ get_or-take count (drop first after) j 0 g
@@ -219,18 +219,18 @@ module _ (l : Label) (z : Sized l) (step : ℕ) (positive : 0 < step) (s : List 
               let c : y - at ≡ row_at l.up (next - at) m = omega arith in
               let d : row_at l.up (next - at) (y - at) ≡ m = ap (row_at l.up (next - at)) c ∙ back l.up (next - at) m a in
               let k = ap (λ (n : ℕ). l.pitch * n) d in
-              let i = byte-in l z before lines at next P.from (omega arith) (omega arith) y x (omega arith) (omega (arith, on_line l.up (next - at) m a)) in
+              let i = byte_in l z before lines at next P.from (omega arith) (omega arith) y x (omega arith) (omega (arith, on_line l.up (next - at) m a)) in
               omega arith
 
       other : (i : ℕ) → ((y x : ℕ) → l.first ≤ y → y < next → x < l.width → i ≡ byte_of l y x → ⊥) → Dec (i < first) → Dec (i < first + count) → get_or whole i 0 ≡ get_or after i 0
-      other i h (yes a) b = mid-before first count after new fits_in back_long i a
+      other i h (yes a) b = mid_before first count after new fits_in back_long i a
       other i h (no a) (yes b) =
           let e : first + (i - first) ≡ i = omega arith in
           rw e at (between (i - first) (omega arith) (λ y x p q r u. h y x p q r (sym e ∙ u)))
-      other i h (no a) (no b) = mid-behind first count after new fits_in back_long i (omega arith)
+      other i h (no a) (no b) = mid_behind first count after new fits_in back_long i (omega arith)
 
-      shown-more : Shown l step words before whole next (P.fuel - 1) cs
-      shown-more = record {
+      shown_more : Shown l step words before whole next (P.fuel - 1) cs
+      shown_more = record {
         rest = two.1;
         painted = λ y x p q r. row y x p q r (dec_lt y at);
         kept = λ i h. other i h (dec_lt i first) (dec_lt i (first + count)) ∙ S.kept i (λ y x p q r. h y x p (omega arith) r);
@@ -240,10 +240,10 @@ module _ (l : Label) (z : Sized l) (step : ℕ) (positive : 0 < step) (s : List 
     painting_more = record {
       from = omega (arith, P.from);
       to = omega arith;
-      long = mid-long first count after new fits_in back_long ∙ P.long;
+      long = mid_long first count after new fits_in back_long ∙ P.long;
       fuel = P.fuel - 1;
       enough = omega (arith, P.enough);
-      shown = shown-more;
+      shown = shown_more;
     }
 
   -- the same, with the numbers as the code has them
@@ -251,19 +251,19 @@ module _ (l : Label) (z : Sized l) (step : ℕ) (positive : 0 < step) (s : List 
     as_long : length (take count (drop first after)) ≡ count
     as_long = length-take-le count (drop first after) (omega (arith, length-drop first after, fits_in))
 
-    pub painting-again : BandPainted (band_of l at n) s words (take size (drop (l.pitch * line) after)) new → Painting l step s words before (put_mid (l.pitch * line) size after new) n
-    painting-again B =
+    pub painting_again : BandPainted (band_of l at n) s words (take size (drop (l.pitch * line) after)) new → Painting l step s words before (put_mid (l.pitch * line) size after new) n
+    painting_again B =
         rw (is-next, is-line, is-size)
         (painting_more (take count (drop first after)) new refl as_long (back_long ∙ is-size) (rw (is-next, is-line, is-size) at B))
 
 -- ---- the last band is done
 module _ (l : Label) (z : Sized l) (step : ℕ) (s : List ℕ) (words : ℕ) (before after : List ℕ) (at : ℕ) (P : Painting l step s words before after at) (over : l.end ≤ at) where
-  pub painted-all : Painted l step s words before after
+  pub painted_all : Painted l step s words before after
   unfolding painted_of
-  painted-all = record {
+  painted_all = record {
     painted = λ cs e f.
         let S = P.shown cs e f in
-        mask-by-bytes l.fill (log_of l cs) (rows l) l.width l.up l.pitch before after z.pitched P.long
+        mask_by_bytes l.fill (log_of l cs) (rows l) l.width l.up l.pitch before after z.pitched P.long
         (λ m x a b.
         let r = row_at l.up (rows l) m in
         let c : l.first + r - l.first ≡ r = omega arith in

@@ -21,27 +21,27 @@ module _ (l : Label) (step words : ℕ) (cs : List Command) (at : ℕ) where
   unfolding too_many_from
   none_left = refl
 
-  pub none-behind : l.end ≤ at → (fuel : ℕ) → too_many_from fuel step l words cs at ≡ false
+  pub none_behind : l.end ≤ at → (fuel : ℕ) → too_many_from fuel step l words cs at ≡ false
   unfolding too_many_from
-  none-behind h zero = refl
-  none-behind h (suc n) = rw (too_many_from, le-ltb at l.end h)
+  none_behind h zero = refl
+  none_behind h (suc n) = rw (too_many_from, le-ltb at l.end h)
 
-  pub one-band : at < l.end → (fuel : ℕ) → 0 < fuel
+  pub one_band : at < l.end → (fuel : ℕ) → 0 < fuel
       → too_many_from fuel step l words cs at ≡ (too_many (band_of l at (band_end step at l.end)) words cs || too_many_from (fuel - 1) step l words cs (band_end step at l.end))
   unfolding too_many_from
-  one-band h zero g = absurd (omega arith)
-  one-band h (suc n) g =
+  one_band h zero g = absurd (omega arith)
+  one_band h (suc n) g =
       let e : n ≡ suc n - 1 = omega arith in
       rw (too_many_from, lt-ltb at l.end h)
       (ap (λ (k : ℕ). too_many (band_of l at (band_end step at l.end)) words cs || too_many_from k step l words cs (band_end step at l.end)) e)
 
   -- of the record that it names: the band's own, or that of a band behind it
-  pub one-room : at < l.end → (fuel : ℕ) → 0 < fuel
+  pub one_room : at < l.end → (fuel : ℕ) → 0 < fuel
       → let own = band_of l at (band_end step at l.end) in
       room_from fuel step l words cs at ≡ cond (too_many own words cs) (room_for own words cs) (room_from (fuel - 1) step l words cs (band_end step at l.end))
   unfolding room_from
-  one-room h zero g = absurd (omega arith)
-  one-room h (suc n) g =
+  one_room h zero g = absurd (omega arith)
+  one_room h (suc n) g =
       let own = band_of l at (band_end step at l.end) in
       let e : n ≡ suc n - 1 = omega arith in
       rw (room_from, lt-ltb at l.end h)
@@ -53,12 +53,12 @@ pub from_bottom : (first end y : ℕ) → first ≤ y → y < end → end - firs
 from_bottom first end y p q = omega arith
 
 module _ (l : Label) (a b : ℕ) (from : l.first ≤ a) (ordered : a ≤ b) (to : b ≤ l.end) where
-  pub band-sized : Sized l → Sized (band_of l a b)
-  band-sized z = record { narrow = z.narrow; low = z.low; ordered = ordered; inside = omega (arith, z.inside); pitched = z.pitched; near = z.near }
+  pub band_sized : Sized l → Sized (band_of l a b)
+  band_sized z = record { narrow = z.narrow; low = z.low; ordered = ordered; inside = omega (arith, z.inside); pitched = z.pitched; near = z.near }
 
   -- the band's lines are lines of the label
-  pub line-in : line_of l a b + (b - a) ≤ rows l
-  line-in = go l.up
+  pub line_in : line_of l a b + (b - a) ≤ rows l
+  line_in = go l.up
     where
       go : (u : Bool) → cond u (l.end - b) (a - l.first) + (b - a) ≤ rows l
       go true = omega arith

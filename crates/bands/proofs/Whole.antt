@@ -20,54 +20,54 @@ use Rattle.label.specs.Checks.{rows}
 use Rattle.label.specs.Draw.{Outcome, outcome, pool_of, painted_of, wiped, log_of, drawn_as, too_many, inked, draw_by, draw_of}
 use Rattle.label.specs.Inking.{Sized, Inked}
 use Rattle.label.proofs.Sizes.{fitting}
-use Rattle.label.proofs.Drawing.{by-path, drawn-from}
+use Rattle.label.proofs.Drawing.{by_path, drawn_from_is}
 use Rattle.claims.specs.Parts.{band}
 use Rattle.claims.specs.Bands.{band_of}
 use Rattle.claims.proofs.Parts.{distinct_part}
 use Rattle.claims.proofs.Draws.{Accepted, accepted, draws}
 use Rattle.bands.specs.InBands.{band_end, too_many_from, too_many_in_band, ran_out_in_band, draw_in_bands_of, AsAtOnce}
 use Rattle.bands.specs.Steps.{Counted, Painted}
-use Rattle.bands.proofs.Cells.{sub-log}
-use Rattle.bands.proofs.Rows.{none_left, none-behind, one-band}
+use Rattle.bands.proofs.Cells.{sub_log}
+use Rattle.bands.proofs.Rows.{none_left, none_behind, one_band}
 
 -- ---- the outcome of an accepted list
 module _ (l : Label) (step records cut : ℕ) (s mask words : List ℕ) where
-  pub inked-full : (ws' ws'' : List ℕ) → ws'' ≡ replicate (length ws') 0 → length ws' ≡ length words → (k : Pool) (i : ℕ) → k ≡ Full i → Counted l step s (length words) k
+  pub inked_full : (ws' ws'' : List ℕ) → ws'' ≡ replicate (length ws') 0 → length ws' ≡ length words → (k : Pool) (i : ℕ) → k ≡ Full i → Counted l step s (length words) k
       → Inked (ran_out_in_band step l (length words)) l records cut s mask words (outcome (Refused refusal.Full i) mask ws'')
   unfolding inked
-  inked-full ws' ws'' e long k i f C = record { rule = λ cs r m m'. rw (C.full i f cs r, C.named i f cs r, e, long) }
+  inked_full ws' ws'' e long k i f C = record { rule = λ cs r m m'. rw (C.full i f cs r, C.named i f cs r, e, long) }
 
-  pub inked-cells : (ws' ws'' mask' : List ℕ) → ws'' ≡ replicate (length ws') 0 → length ws' ≡ length words → (k : Pool) (n : ℕ) → k ≡ Cells n → Counted l step s (length words) k
+  pub inked_cells : (ws' ws'' mask' : List ℕ) → ws'' ≡ replicate (length ws') 0 → length ws' ≡ length words → (k : Pool) (n : ℕ) → k ≡ Cells n → Counted l step s (length words) k
       → Painted l step s (length words) mask mask' → Inked (ran_out_in_band step l (length words)) l records cut s mask words (outcome (Drawn records n cut) mask' ws'')
   unfolding inked
-  inked-cells ws' ws'' mask' e long k n f C P = record {
+  inked_cells ws' ws'' mask' e long k n f C P = record {
     rule = λ cs r m m'. let fit = C.fit n f cs r in rw (fit, e, long, m, m', C.counted n f cs r, P.painted cs r fit);
   }
 
 -- ---- a label that fits at once fits in bands
 module _ (l : Label) (z : Sized l) (cs : List Command) (step words : ℕ) (positive : 0 < step) (room : distinct (log_of l cs) ≤ pool_of l words) where
-  one-fits : (a b : ℕ) → l.first ≤ a → a ≤ b → b ≤ l.end → too_many (band_of l a b) words cs ≡ false
-  one-fits a b p q r =
+  one_fits : (a b : ℕ) → l.first ≤ a → a ≤ b → b ≤ l.end → too_many (band_of l a b) words cs ≡ false
+  one_fits a b p q r =
       let few : distinct (band (a - l.first) (b - l.first) (log_of l cs)) ≤ distinct (log_of l cs) = distinct_part (per_row * (a - l.first)) (per_row * (b - l.first)) (log_of l cs) in
-      let e : distinct (log_of (band_of l a b) cs) ≡ distinct (band (a - l.first) (b - l.first) (log_of l cs)) = ap distinct (sub-log l z cs a b p q r) in
+      let e : distinct (log_of (band_of l a b) cs) ≡ distinct (band (a - l.first) (b - l.first) (log_of l cs)) = ap distinct (sub_log l z cs a b p q r) in
       le-ltb _ _ (within e few room (omega arith))
     where
       within : {a b c d f : ℕ} → a ≡ b → b ≤ c → c ≤ d → d ≤ f → a ≤ f
       within p q r t = omega arith
 
-  fit-from : (fuel at : ℕ) → l.first ≤ at → too_many_from fuel step l words cs at ≡ false
-  fit-from zero at p = none_left l step words cs at
-  fit-from (suc n) at p = go (fit-from n (band_end step at l.end)) (ltb at l.end) refl
+  fit_from : (fuel at : ℕ) → l.first ≤ at → too_many_from fuel step l words cs at ≡ false
+  fit_from zero at p = none_left l step words cs at
+  fit_from (suc n) at p = go (fit_from n (band_end step at l.end)) (ltb at l.end) refl
     where
       go : (l.first ≤ band_end step at l.end → too_many_from n step l words cs (band_end step at l.end) ≡ false) → (t : Bool) → ltb at l.end ≡ t → too_many_from (suc n) step l words cs at ≡ false
       go rest true e =
           let h = ltb-true at l.end e in
           let k : suc n - 1 ≡ n = omega arith in
-          one-band l step words cs at h (suc n) (omega arith) ∙ rw (one-fits at (band_end step at l.end) p (omega arith) (omega arith), k) (rest (omega arith))
-      go rest false e = none-behind l step words cs at (ltb-false at l.end e) (suc n)
+          one_band l step words cs at h (suc n) (omega arith) ∙ rw (one_fits at (band_end step at l.end) p (omega arith) (omega arith), k) (rest (omega arith))
+      go rest false e = none_behind l step words cs at (ltb-false at l.end e) (suc n)
 
   all_fit : too_many_in_band step l words cs ≡ false
-  all_fit = fit-from (rows l) l.first (omega arith)
+  all_fit = fit_from (rows l) l.first (omega arith)
 
 -- ---- at once and in bands
 pub bands_are : (step : ℕ) (l : Label) (s mask words : List ℕ) → draw_by (ran_out_in_band (max 1 step) l (length words)) l s mask words ≡ draw_in_bands_of step l s mask words
@@ -84,16 +84,16 @@ module _ (step : ℕ) (l : Label) (s mask words : List ℕ) (records cells cut :
   abbrev full : List Command → Option ℕ
   full = ran_out_in_band (max 1 step) l (length words)
 
-  is-fit : too_many_in_band (max 1 step) l (length words) was.cs ≡ false
-  is-fit = all_fit l (fitting l (length s) (length mask) (length words) was.fine).sized was.cs (max 1 step) (length words) some was.room
+  is_fit : too_many_in_band (max 1 step) l (length words) was.cs ≡ false
+  is_fit = all_fit l (fitting l (length s) (length mask) (length words) was.fine).sized was.cs (max 1 step) (length words) some was.room
 
   inks : inked (full was.cs) l mask words was.cs ≡ outcome (drawn_as l was.cs) (painted_of l (log_of l was.cs) mask) (wiped words)
   unfolding inked
-  inks = rw is-fit
+  inks = rw is_fit
 
   same_outcome : draw_in_bands_of step l s mask words ≡ draw_of l s mask words
   same_outcome =
-      sym (bands_are step l s mask words) ∙ sym (drawn-from full l s mask words was.fine (path was.cs) was.read) ∙ by-path full l mask words was.cs ∙ inks
+      sym (bands_are step l s mask words) ∙ sym (drawn_from_is full l s mask words was.fine (path was.cs) was.read) ∙ by_path full l mask words was.cs ∙ inks
       ∙ sym (draws l s mask words was.cs was.fine was.read was.room)
 
 pub at_once_is : (step : ℕ) (l : Label) (s mask words : List ℕ) → AsAtOnce (draw_of l s mask words) (draw_in_bands_of step l s mask words)

@@ -26,30 +26,30 @@ use Rattle.path.specs.declared.Refusal.{Refusal}
 use Rattle.path.specs.declared.Refusal.TheVariants.{Full}
 use Rattle.label.specs.Checks.{checked_of}
 use Rattle.label.specs.Draw.{outcome, pool_of, painted_of, wiped, log_of, drawn_as, too_many, room_for, ran_out, inked, draw_of}
-use Rattle.label.proofs.Drawing.{answered, refused_not_drawn, draw_is, by-refused, by-path, turned, drawn-from}
+use Rattle.label.proofs.Drawing.{answered, refused_not_drawn, draw_is, by_refused, by_path, turned, drawn_from_is}
 use Rattle.claims.specs.Ink.{AllReach}
 
 -- ---- the strokes of a list are within reach
 module _ (t : Transform) (o : Point) where
-  fixed-near : (p : Point) → Reach (fixed_at t o p)
-  fixed-near p = go (spot_at t o p) refl
+  fixed_near : (p : Point) → Reach (fixed_at t o p)
+  fixed_near p = go (spot_at t o p) refl
     where
       go : (v : Spot) → spot_at t o p ≡ v → Reach (fixed_at t o p)
       go (spot.At q n) e = rw (fixed_in t o p q n e) at (spot_near t o p q n e)
       go spot.Outside e = rw (fixed_out t o p e) at corner_near
 
-  stroke-near : (k : Command) → ReachAll (stroke_of t o k)
+  stroke_near : (k : Command) → ReachAll (stroke_of t o k)
   unfolding stroke_of
-  stroke-near (MoveTo p) = fixed-near p
-  stroke-near (LineTo p) = fixed-near p
-  stroke-near (QuadTo c p) = (fixed-near c, fixed-near p)
-  stroke-near (CurveTo c d p) = (fixed-near c, fixed-near d, fixed-near p)
-  stroke-near Close = tt
+  stroke_near (MoveTo p) = fixed_near p
+  stroke_near (LineTo p) = fixed_near p
+  stroke_near (QuadTo c p) = (fixed_near c, fixed_near p)
+  stroke_near (CurveTo c d p) = (fixed_near c, fixed_near d, fixed_near p)
+  stroke_near Close = tt
 
-  pub strokes-near : (cs : List Command) → AllReach (strokes_of t o cs)
+  pub strokes_near : (cs : List Command) → AllReach (strokes_of t o cs)
   unfolding strokes_of
-  strokes-near [] = tt
-  strokes-near (k ∷ cs) = (stroke-near k, strokes-near cs)
+  strokes_near [] = tt
+  strokes_near (k ∷ cs) = (stroke_near k, strokes_near cs)
 
 -- ---- accepted
 pub record Accepted (l : Label) (s : List ℕ) (mask words records cells cut : ℕ) : Type 0 where
@@ -79,32 +79,32 @@ module _ (l : Label) (s mask words : List ℕ) where
   known v = checked_of l (length s) (length mask) (length words) ≡ v
 
   module _ (cs : List Command) (fine : known Fine) (read : read_list l.transform l.offset s ≡ path cs) where
-    is-inked : draw_of l s mask words ≡ inked (full cs) l mask words cs
-    is-inked = sym (draw_is l s mask words) ∙ sym (drawn-from full l s mask words fine (path cs) read) ∙ by-path full l mask words cs
+    is_inked : draw_of l s mask words ≡ inked (full cs) l mask words cs
+    is_inked = sym (draw_is l s mask words) ∙ sym (drawn_from_is full l s mask words fine (path cs) read) ∙ by_path full l mask words cs
 
     -- a list that passes the checks and fits the pool is drawn
     pub draws : distinct (log_of l cs) ≤ pool_of l (length words) → draw_of l s mask words ≡ outcome (drawn_as l cs) (painted_of l (log_of l cs) mask) (wiped words)
-    draws room = is-inked ∙ enough l mask words cs room
+    draws room = is_inked ∙ enough l mask words cs room
 
   -- and no other
   module _ (records cells cut : ℕ) (h : (draw_of l s mask words).answer ≡ Drawn records cells cut) where
-    turned-away : {X : Type 0} {w : Refusal} {i : ℕ} {words' : List ℕ} → outcome (Refused w i) mask words' ≡ draw_of l s mask words → X
-    turned-away e = refused_not_drawn (answered e ∙ h)
+    turned_away_is : {X : Type 0} {w : Refusal} {i : ℕ} {words' : List ℕ} → outcome (Refused w i) mask words' ≡ draw_of l s mask words → X
+    turned_away_is e = refused_not_drawn (answered e ∙ h)
 
-    of-log : (cs : List Command) → known Fine → read_list l.transform l.offset s ≡ path cs → (t : Bool) → too_many l (length words) cs ≡ t → Accepted l s (length mask) (length words) records cells cut
-    of-log cs e g true u = turned-away (sym (is-inked cs e g ∙ too_many_refused l mask words cs (ltb-true _ _ u)))
-    of-log cs e g false u =
+    of_log : (cs : List Command) → known Fine → read_list l.transform l.offset s ≡ path cs → (t : Bool) → too_many l (length words) cs ≡ t → Accepted l s (length mask) (length words) records cells cut
+    of_log cs e g true u = turned_away_is (sym (is_inked cs e g ∙ too_many_refused l mask words cs (ltb-true _ _ u)))
+    of_log cs e g false u =
         let room = ltb-false _ _ u in
         let same : drawn_as l cs ≡ Drawn records cells cut = sym (answered (draws cs e g room)) ∙ h in
         record { cs = cs; fine = e; read = g; room = room; counted = cc; found = cc; cuts = cc }
 
-    of-read : known Fine → (r : Read) → read_list l.transform l.offset s ≡ r → Accepted l s (length mask) (length words) records cells cut
-    of-read e (refused w i) g = turned-away (sym (by-refused full l mask words w i) ∙ drawn-from full l s mask words e (refused w i) g ∙ draw_is l s mask words)
-    of-read e (path cs) g = of-log cs e g (too_many l (length words) cs) refl
+    of_read : known Fine → (r : Read) → read_list l.transform l.offset s ≡ r → Accepted l s (length mask) (length words) records cells cut
+    of_read e (refused w i) g = turned_away_is (sym (by_refused full l mask words w i) ∙ drawn_from_is full l s mask words e (refused w i) g ∙ draw_is l s mask words)
+    of_read e (path cs) g = of_log cs e g (too_many l (length words) cs) refl
 
-    of-check : (v : Verdict) → known v → Accepted l s (length mask) (length words) records cells cut
-    of-check (Faulty w) e = turned-away (turned full l s mask words w e ∙ draw_is l s mask words)
-    of-check Fine e = of-read e (read_list l.transform l.offset s) refl
+    of_check : (v : Verdict) → known v → Accepted l s (length mask) (length words) records cells cut
+    of_check (Faulty w) e = turned_away_is (turned full l s mask words w e ∙ draw_is l s mask words)
+    of_check Fine e = of_read e (read_list l.transform l.offset s) refl
 
     pub accepted : Accepted l s (length mask) (length words) records cells cut
-    accepted = of-check (checked_of l (length s) (length mask) (length words)) refl
+    accepted = of_check (checked_of l (length s) (length mask) (length words)) refl

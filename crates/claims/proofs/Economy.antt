@@ -12,31 +12,31 @@ use Rattle.pen.specs.Laws.{after_append, whole_append, seen_append}
 use Rattle.line.specs.Range.{Reach}
 use Rattle.line.specs.Lines.{ends, line_all, skips, line_marks}
 use Rattle.line.specs.Trail.{StandsIn, Enters, none, Outside}
-use Rattle.line.proofs.Whole.{line-ends, line-none, line-whole, line-outside, line_skipped}
-use Rattle.line.proofs.Unseen.{StandsOutside, not-inside, gave-outside, leaving-unseen, unseen-left, unseen-after}
+use Rattle.line.proofs.Whole.{line_ends, line_none, line_whole, line_outside, line_skipped}
+use Rattle.line.proofs.Unseen.{StandsOutside, not_inside, gave_outside, leaving_unseen, unseen_left, unseen_after}
 
 -- ---- a pen outside the band
 module _ (f : Frame) where
-  last-unseen : (s : Stand) → StandsOutside f s → seen f (last_of s) ≡ []
+  last_unseen : (s : Stand) → StandsOutside f s → seen f (last_of s) ≡ []
   unfolding seen
-  last-unseen nowhere o = refl
-  last-unseen (at c r v a) o = rw (not-inside f c r v a o)
+  last_unseen nowhere o = refl
+  last_unseen (at c r v a) o = rw (not_inside f c r v a o)
 
   -- a stale cell never shows
   pub stale : (ms : List Mark) (s : Stand) → StandsOutside f s → seen f (whole s ms) ≡ seen f (whole nowhere ms)
   unfolding left after
-  stale [] s o = last-unseen s o ∙ sym (last-unseen nowhere tt)
+  stale [] s o = last_unseen s o ∙ sym (last_unseen nowhere tt)
   stale (enter c r ∷ ms) s o = drop (left (at c r 0 0) ms) (last_of (after (at c r 0 0) ms))
     where
       drop : (xs ys : List Pair) → seen f ((leaving s ++ xs) ++ ys) ≡ seen f (xs ++ ys)
-      drop xs ys = rw (append_assoc (leaving s) xs ys) (seen_append f (leaving s) (xs ++ ys) ∙ rw (leaving-unseen f s o))
-  stale (give v a ∷ ms) s o = stale ms (gave s v a) (gave-outside f s v a o)
+      drop xs ys = rw (append_assoc (leaving s) xs ys) (seen_append f (leaving s) (xs ++ ys) ∙ rw (leaving_unseen f s o))
+  stale (give v a ∷ ms) s o = stale ms (gave s v a) (gave_outside f s v a o)
 
   -- marks in rows outside the band can be left out
   pub skipped : {ns : List Mark} → Enters (Outside f) ns → (s : Stand) (ys : List Mark) → StandsOutside f s → seen f (whole s ys) ≡ seen f (whole s (ns ++ ys))
   skipped {ns} e s ys o =
-      stale ys s o ∙ sym (stale ys (after s ns) (unseen-after f e s o))
-      ∙ sym (rw (whole_append s ns ys) (seen_append f (left s ns) (whole (after s ns) ys) ∙ rw (unseen-left f e s o)))
+      stale ys s o ∙ sym (stale ys (after s ns) (unseen_after f e s o))
+      ∙ sym (rw (whole_append s ns ys) (seen_append f (left s ns) (whole (after s ns) ys) ∙ rw (unseen_left f e s o)))
 
 -- ---- a pen that makes all marks is in the cell of the pen point, or in none yet
 abbrev pub Follows : Stand → FixedPoint → Type 0
@@ -59,7 +59,7 @@ from_nowhere (enter c r ∷ ms) s = inr refl
 from_nowhere (give v a ∷ ms) s = from_nowhere ms (gave s v a)
 
 line_follows : (a b : FixedPoint) → Reach a → Reach b → (s : Stand) → Follows s a → Follows (after s (line_all a b)) b
-line_follows a b ra rb (at c r v x) h = follows_in (after (at c r v x) (line_all a b)) b (line-ends a b ra rb (at c r v x) h)
+line_follows a b ra rb (at c r v x) h = follows_in (after (at c r v x) (line_all a b)) b (line_ends a b ra rb (at c r v x) h)
 line_follows a b ra rb nowhere h = go (from_nowhere (line_all a b) there)
   where
     there : Stand
@@ -67,7 +67,7 @@ line_follows a b ra rb nowhere h = go (from_nowhere (line_all a b) there)
 
     go : (after nowhere (line_all a b) ≡ nowhere) ⊎ (after there (line_all a b) ≡ after nowhere (line_all a b)) → Follows (after nowhere (line_all a b)) b
     go (inl e) = rw e tt
-    go (inr e) = rw e at (follows_in (after there (line_all a b)) b (line-ends a b ra rb there (refl, refl)))
+    go (inr e) = rw e at (follows_in (after there (line_all a b)) b (line_ends a b ra rb there (refl, refl)))
 
 -- ---- the marks ms save what the band does not see of the marks ns, which go from a to b
 pub record Economy (f : Frame) (a b : FixedPoint) (ms ns : List Mark) : Type 0 where
@@ -80,24 +80,24 @@ module _ (f : Frame) where
       rw (whole_append s ns xs, whole_append s ns ys)
       (seen_append f (left s ns) (whole (after s ns) xs) ∙ ap (λ z. seen f (left s ns) ++ z) e ∙ sym (seen_append f (left s ns) (whole (after s ns) ys)))
 
-  pub economy-all : {a b : FixedPoint} {ns : List Mark} → ((s : Stand) → Follows s a → Follows (after s ns) b) → Economy f a b ns ns
-  economy-all g = record { goes = g; same = λ s ys h. refl }
+  pub economy_all : {a b : FixedPoint} {ns : List Mark} → ((s : Stand) → Follows s a → Follows (after s ns) b) → Economy f a b ns ns
+  economy_all g = record { goes = g; same = λ s ys h. refl }
 
-  pub economy-join : {a b c : FixedPoint} {ms ns ms' ns' : List Mark} → Economy f a b ms ns → Economy f b c ms' ns' → Economy f a c (ms ++ ms') (ns ++ ns')
-  economy-join {ms = ms} {ns} {ms'} {ns'} e g =
+  pub economy_join : {a b c : FixedPoint} {ms ns ms' ns' : List Mark} → Economy f a b ms ns → Economy f b c ms' ns' → Economy f a c (ms ++ ms') (ns ++ ns')
+  economy_join {ms = ms} {ns} {ms'} {ns'} e g =
       record {
         goes = λ s h. rw (after_append s ns ns') (g.goes (after s ns) (e.goes s h));
         same = λ s ys h. rw (append_assoc ms ms' ys, append_assoc ns ns' ys)
             (e.same s (ms' ++ ys) h ∙ behind s ns (ms' ++ ys) (ns' ++ ys) (g.same (after s ns) ys (e.goes s h)));
       }
 
-  pub economy-line : (a b : FixedPoint) → Reach a → Reach b → Economy f a b (line_marks f a b) (line_all a b)
-  economy-line a b ra rb = go (skips f (ends a b)) refl
+  pub economy_line : (a b : FixedPoint) → Reach a → Reach b → Economy f a b (line_marks f a b) (line_all a b)
+  economy_line a b ra rb = go (skips f (ends a b)) refl
     where
       go : (t : Bool) → skips f (ends a b) ≡ t → Economy f a b (line_marks f a b) (line_all a b)
       go true e =
           record {
             goes = line_follows a b ra rb;
-            same = λ s ys h. rw (line-none a b ra rb f e) (skipped f (line_skipped a b ra rb f e) s ys (follows_outside f s a (line-outside a b ra rb f e) h));
+            same = λ s ys h. rw (line_none a b ra rb f e) (skipped f (line_skipped a b ra rb f e) s ys (follows_outside f s a (line_outside a b ra rb f e) h));
           }
-      go false e = rw (line-whole a b ra rb f e) (economy-all (line_follows a b ra rb))
+      go false e = rw (line_whole a b ra rb f e) (economy_all (line_follows a b ra rb))

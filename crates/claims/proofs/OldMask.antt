@@ -18,35 +18,35 @@ use Rattle.label.specs.Draw.{outcome, wiped, log_of, ran_out, inked, drawn_from,
 use Rattle.label.proofs.Sizes.{Fitting, fitting}
 use Rattle.claims.specs.OldContents.{MaskAfter, MasksAfter, AlikeButMask, OldMask}
 use Rattle.claims.proofs.OldWords.{by_lengths}
-use Rattle.claims.proofs.Painted.{painted-long, painted-line, other_byte}
+use Rattle.claims.proofs.Painted.{painted_long, painted_line, other_byte}
 
 -- ---- the mask after a drawing
 module _ (full : List Command → Option ℕ) (l : Label) (mask words : List ℕ) where
   left : (w : Refusal) (i : ℕ) (words' : List ℕ) → MaskAfter l mask (outcome (Refused w i) mask words')
   left w i words' = record { long = refl; refused = λ h. refl; others = λ i h n. refl }
 
-  after-inked : (b : Option ℕ) (cs : List Command) → MaskAfter l mask (inked b l mask words cs)
+  after_inked : (b : Option ℕ) (cs : List Command) → MaskAfter l mask (inked b l mask words cs)
   unfolding inked
-  after-inked (some i) cs = left Full i (wiped words)
-  after-inked none cs = record {
-    long = painted-long l (log_of l cs) mask;
+  after_inked (some i) cs = left Full i (wiped words)
+  after_inked none cs = record {
+    long = painted_long l (log_of l cs) mask;
     refused = λ h. absurd (let z : ◌≡◌ {A = ℕ} 0 1 = cc in omega arith);
     others = other_byte l (log_of l cs) mask;
   }
 
-  after-drawn : (r : Read) → MaskAfter l mask (drawn_from full l mask words r)
+  after_drawn : (r : Read) → MaskAfter l mask (drawn_from full l mask words r)
   unfolding drawn_from
-  after-drawn (refused w i) = left w i words
-  after-drawn (path cs) = after-inked (full cs) cs
+  after_drawn (refused w i) = left w i words
+  after_drawn (path cs) = after_inked (full cs) cs
 
-  after-checked : (s : List ℕ) (v : Verdict) → MaskAfter l mask (checked_draw full v l s mask words)
+  after_checked : (s : List ℕ) (v : Verdict) → MaskAfter l mask (checked_draw full v l s mask words)
   unfolding checked_draw
-  after-checked s (Faulty w) = left w 0 words
-  after-checked s Fine = after-drawn (read_list l.transform l.offset s)
+  after_checked s (Faulty w) = left w 0 words
+  after_checked s Fine = after_drawn (read_list l.transform l.offset s)
 
 pub masks_after_by : (full : Label → ℕ → List Command → Option ℕ) → MasksAfter (λ l s mask words. draw_by (full l (length words)) l s mask words)
 unfolding draw_by
-masks_after_by full l s mask words = after-checked (full l (length words)) l mask words s (checked_of l (length s) (length mask) (length words))
+masks_after_by full l s mask words = after_checked (full l (length words)) l mask words s (checked_of l (length s) (length mask) (length words))
 
 pub masks_after : MasksAfter draw_of
 unfolding draw_of
@@ -61,32 +61,32 @@ module _ (full : List Command → Option ℕ) (l : Label) (mask mask' words : Li
     f' : Fitting l (length mask') (length words)
     f' = rw (← e) f
 
-    both-inked : (b : Option ℕ) (cs : List Command) → AlikeButMask l (inked b l mask words cs) (inked b l mask' words cs)
+    both_inked : (b : Option ℕ) (cs : List Command) → AlikeButMask l (inked b l mask words cs) (inked b l mask' words cs)
     unfolding inked
-    both-inked (some i) cs = both_left Full i (wiped words)
-    both-inked none cs = record {
+    both_inked (some i) cs = both_left Full i (wiped words)
+    both_inked none cs = record {
       answer = refl;
       words = refl;
       written = λ h y x a b.
-          painted-line l (log_of l cs) mask f.sized.pitched f.lent.lines y x a b
-          ∙ sym (painted-line l (log_of l cs) mask' f'.sized.pitched f'.lent.lines y x a b);
+          painted_line l (log_of l cs) mask f.sized.pitched f.lent.lines y x a b
+          ∙ sym (painted_line l (log_of l cs) mask' f'.sized.pitched f'.lent.lines y x a b);
     }
 
-    both-drawn : (r : Read) → AlikeButMask l (drawn_from full l mask words r) (drawn_from full l mask' words r)
+    both_drawn : (r : Read) → AlikeButMask l (drawn_from full l mask words r) (drawn_from full l mask' words r)
     unfolding drawn_from
-    both-drawn (refused w i) = both_left w i words
-    both-drawn (path cs) = both-inked (full cs) cs
+    both_drawn (refused w i) = both_left w i words
+    both_drawn (path cs) = both_inked (full cs) cs
 
-  both-checked : (s : List ℕ) (v : Verdict) → (v ≡ Fine → Fitting l (length mask) (length words)) → AlikeButMask l (checked_draw full v l s mask words) (checked_draw full v l s mask' words)
+  both_checked : (s : List ℕ) (v : Verdict) → (v ≡ Fine → Fitting l (length mask) (length words)) → AlikeButMask l (checked_draw full v l s mask words) (checked_draw full v l s mask' words)
   unfolding checked_draw
-  both-checked s (Faulty w) g = both_left w 0 words
-  both-checked s Fine g = both-drawn (g refl) (read_list l.transform l.offset s)
+  both_checked s (Faulty w) g = both_left w 0 words
+  both_checked s Fine g = both_drawn (g refl) (read_list l.transform l.offset s)
 
 pub old_mask_by : (full : Label → ℕ → List Command → Option ℕ) → OldMask (λ l s mask words. draw_by (full l (length words)) l s mask words)
 old_mask_by full l s mask mask' words e =
     let w = full l (length words) in
     rw (by_lengths w l s mask words (length mask) (length words) refl refl, by_lengths w l s mask' words (length mask) (length words) (sym e) refl)
-    (both-checked w l mask mask' words e s (checked_of l (length s) (length mask) (length words)) (fitting l (length s) (length mask) (length words)))
+    (both_checked w l mask mask' words e s (checked_of l (length s) (length mask) (length words)) (fitting l (length s) (length mask) (length words)))
 
 pub old_mask_is : OldMask draw_of
 unfolding draw_of

@@ -28,20 +28,20 @@ record Same (o o' : Outcome) : Type 0 where
   pub mask : o.mask ≡ o'.mask
 
 module _ (full : List Command → Option ℕ) (l : Label) (mask words words' : List ℕ) where
-  same-inked : (b : Option ℕ) (cs : List Command) → Same (inked b l mask words cs) (inked b l mask words' cs)
+  same_inked : (b : Option ℕ) (cs : List Command) → Same (inked b l mask words cs) (inked b l mask words' cs)
   unfolding inked
-  same-inked (some i) cs = record { answer = refl; mask = refl }
-  same-inked none cs = record { answer = refl; mask = refl }
+  same_inked (some i) cs = record { answer = refl; mask = refl }
+  same_inked none cs = record { answer = refl; mask = refl }
 
-  same-drawn : (r : Read) → Same (drawn_from full l mask words r) (drawn_from full l mask words' r)
+  same_drawn : (r : Read) → Same (drawn_from full l mask words r) (drawn_from full l mask words' r)
   unfolding drawn_from
-  same-drawn (refused w i) = record { answer = refl; mask = refl }
-  same-drawn (path cs) = same-inked (full cs) cs
+  same_drawn (refused w i) = record { answer = refl; mask = refl }
+  same_drawn (path cs) = same_inked (full cs) cs
 
-  same-checked : (s : List ℕ) (v : Verdict) → Same (checked_draw full v l s mask words) (checked_draw full v l s mask words')
+  same_checked : (s : List ℕ) (v : Verdict) → Same (checked_draw full v l s mask words) (checked_draw full v l s mask words')
   unfolding checked_draw
-  same-checked s (Faulty w) = record { answer = refl; mask = refl }
-  same-checked s Fine = same-drawn (read_list l.transform l.offset s)
+  same_checked s (Faulty w) = record { answer = refl; mask = refl }
+  same_checked s Fine = same_drawn (read_list l.transform l.offset s)
 
 module _ (full : Label → ℕ → List Command → Option ℕ) (l : Label) (s mask words words' : List ℕ) (e : length words ≡ length words') where
   abbrev before : Outcome
@@ -53,14 +53,14 @@ module _ (full : Label → ℕ → List Command → Option ℕ) (l : Label) (s m
   same : Same before after
   same =
       rw (← e, by_lengths (full l (length words)) l s mask words (length mask) (length words) refl refl, by_lengths (full l (length words)) l s mask words' (length mask) (length words) refl (sym e))
-      (same-checked (full l (length words)) l mask words words' s (checked_of l (length s) (length mask) (length words)))
+      (same_checked (full l (length words)) l mask words words' s (checked_of l (length s) (length mask) (length words)))
 
   -- words that are all zero are as many zeros
   zeros : (a a' : Answer) → a ≡ a' → wipes a ≡ true → words_after a words ≡ words_after a' words'
   zeros a a' p h = rw (← p, h, e)
 
-  pub old-words-by : AlikeButWords before after
-  old-words-by = record {
+  pub old_words_by : AlikeButWords before after
+  old_words_by = record {
     answer = same.answer;
     mask = same.mask;
     words = λ h.
@@ -71,4 +71,4 @@ module _ (full : Label → ℕ → List Command → Option ℕ) (l : Label) (s m
 
 pub old_words_is : OldWords draw_of
 unfolding draw_of
-old_words_is = old-words-by ran_out
+old_words_is = old_words_by ran_out

@@ -11,7 +11,7 @@ use borrow.Author.Tests.{lt-ltb, le-ltb}
 use Rattle.storage.specs.Deposits.{Deposit}
 use Rattle.sweep.specs.Masks.{row_at, byte_at}
 use Rattle.sweep.specs.Pixels.{pixel}
-use Rattle.sweep.proofs.Mask.{mask-long, mask_at, line_of_is, column_of}
+use Rattle.sweep.proofs.Mask.{mask_long, mask_at, line_of_is, column_of}
 use Rattle.label.specs.declared.Label.{Label}
 use Rattle.label.specs.Checks.{rows}
 use Rattle.label.specs.Draw.{painted_of}
@@ -31,9 +31,9 @@ module _ (l : Label) (log : List Deposit) (mask : List ℕ) where
   unfolding painted_of
   byte_at_is i h = let e : 0 + i ≡ i = omega arith in rw e at (mask_at l.fill log (rows l) l.width l.up l.pitch 0 mask i h)
 
-  pub painted-long : length (painted_of l log mask) ≡ length mask
+  pub painted_long : length (painted_of l log mask) ≡ length mask
   unfolding painted_of
-  painted-long = mask-long l.fill log (rows l) l.width l.up l.pitch 0 mask
+  painted_long = mask_long l.fill log (rows l) l.width l.up l.pitch 0 mask
 
   module _ (pitched : l.width ≤ l.pitch) (lines : 0 < rows l → l.pitch * (rows l - 1) + l.width ≤ length mask) where
     pub inside : (m x : ℕ) → m < rows l → x < l.width → spot_of l m x < length mask
@@ -43,15 +43,15 @@ module _ (l : Label) (log : List Deposit) (mask : List ℕ) where
         omega arith
 
     -- by its line
-    pub painted-line : (m x : ℕ) → m < rows l → x < l.width → get_or (painted_of l log mask) (spot_of l m x) 0 ≡ pixel l.fill log (row_at l.up (rows l) m) x
-    painted-line m x h g =
+    pub painted_line : (m x : ℕ) → m < rows l → x < l.width → get_or (painted_of l log mask) (spot_of l m x) 0 ≡ pixel l.fill log (row_at l.up (rows l) m) x
+    painted_line m x h g =
         let near : x < l.pitch = omega arith in
         byte_at_is (spot_of l m x) (inside m x h g) ∙ rw (line_of_is l.pitch m x near, column_of l.pitch m x near, lt-ltb _ _ h, lt-ltb _ _ g)
 
     -- by its row
-    pub painted-row : (r x : ℕ) → r < rows l → x < l.width → get_or (painted_of l log mask) (spot_of l (row_at l.up (rows l) r) x) 0 ≡ pixel l.fill log r x
-    painted-row r x h g =
-        painted-line (row_at l.up (rows l) r) x (on_line l.up (rows l) r h) g
+    pub painted_row : (r x : ℕ) → r < rows l → x < l.width → get_or (painted_of l log mask) (spot_of l (row_at l.up (rows l) r) x) 0 ≡ pixel l.fill log r x
+    painted_row r x h g =
+        painted_line (row_at l.up (rows l) r) x (on_line l.up (rows l) r h) g
         ∙ ap (λ (n : ℕ). pixel l.fill log n x) (back l.up (rows l) r h)
 
   -- a byte that no line and column has

@@ -23,21 +23,21 @@ pub record Among (lo hi p : ℕ) : Type 0 where
   pub high : p < hi
 
 module _ (lo hi p : ℕ) where
-  pub among-is : Among lo hi p → among lo hi p ≡ true
-  among-is h = rw (le-leb lo p h.low, lt-ltb p hi h.high)
+  pub among_is : Among lo hi p → among lo hi p ≡ true
+  among_is h = rw (le-leb lo p h.low, lt-ltb p hi h.high)
 
   pub is_among : among lo hi p ≡ true → Among lo hi p
   is_among e = let h = both_true (leb lo p) (ltb p hi) e in record { low = leb-true lo p h.0; high = ltb-true p hi h.1 }
 
-  pub among-not : (Among lo hi p → ⊥) → among lo hi p ≡ false
-  among-not n = go (among lo hi p) refl
+  pub among_not : (Among lo hi p → ⊥) → among lo hi p ≡ false
+  among_not n = go (among lo hi p) refl
     where
       go : (t : Bool) → among lo hi p ≡ t → among lo hi p ≡ false
       go true e = absurd (n (is_among e))
       go false e = e
 
-  pub not-among : among lo hi p ≡ false → Among lo hi p → ⊥
-  not-among e h = false≢true (sym e ∙ among-is h)
+  pub not_among : among lo hi p ≡ false → Among lo hi p → ⊥
+  not_among e h = false≢true (sym e ∙ among_is h)
 
 -- ---- one deposit more
 module _ (lo hi : ℕ) (d : Deposit) (ds : List Deposit) where
@@ -58,24 +58,24 @@ from_from : (lo a : ℕ) (d : Deposit) → from a (from lo d) ≡ from (lo + a) 
 from_from lo a d = let e : d.place - lo - a ≡ d.place - (lo + a) = omega arith in ap (λ (p : ℕ). record { place = p; cover = d.cover; area = d.area }) e
 
 module _ (lo hi a b : ℕ) (inner : lo + b ≤ hi) where
-  pub part-part : (log : List Deposit) → part a b (part lo hi log) ≡ part (lo + a) (lo + b) log
-  part-part [] = rw (part_none lo hi, part_none a b) (sym (part_none (lo + a) (lo + b)))
-  part-part (d ∷ ds) = go (part-part ds) (among lo hi d.place) (among a b (d.place - lo)) refl refl
+  pub part_part : (log : List Deposit) → part a b (part lo hi log) ≡ part (lo + a) (lo + b) log
+  part_part [] = rw (part_none lo hi, part_none a b) (sym (part_none (lo + a) (lo + b)))
+  part_part (d ∷ ds) = go (part_part ds) (among lo hi d.place) (among a b (d.place - lo)) refl refl
     where
       go : part a b (part lo hi ds) ≡ part (lo + a) (lo + b) ds → (t u : Bool) → among lo hi d.place ≡ t → among a b (d.place - lo) ≡ u
           → part a b (part lo hi (d ∷ ds)) ≡ part (lo + a) (lo + b) (d ∷ ds)
       go rest true true e g =
           let h = is_among lo hi d.place e in
           let k = is_among a b (d.place - lo) g in
-          let m = among-is (lo + a) (lo + b) d.place (record { low = omega (arith, h.low, k.low); high = omega (arith, h.low, k.high) }) in
+          let m = among_is (lo + a) (lo + b) d.place (record { low = omega (arith, h.low, k.low); high = omega (arith, h.low, k.high) }) in
           rw (part_in lo hi d ds e, part_in a b (from lo d) (part lo hi ds) g, part_in (lo + a) (lo + b) d ds m, rest, from_from lo a d)
       go rest true false e g =
-          let n = not-among a b (d.place - lo) g in
-          let m = among-not (lo + a) (lo + b) d.place (λ k. n (record { low = omega (arith, k.low); high = omega (arith, k.low, k.high) })) in
+          let n = not_among a b (d.place - lo) g in
+          let m = among_not (lo + a) (lo + b) d.place (λ k. n (record { low = omega (arith, k.low); high = omega (arith, k.low, k.high) })) in
           rw (part_in lo hi d ds e, part_out a b (from lo d) (part lo hi ds) g, part_out (lo + a) (lo + b) d ds m) rest
       go rest false u e g =
-          let n = not-among lo hi d.place e in
-          let m = among-not (lo + a) (lo + b) d.place (λ k. n (record { low = omega (arith, k.low); high = omega (arith, k.high) })) in
+          let n = not_among lo hi d.place e in
+          let m = among_not (lo + a) (lo + b) d.place (λ k. n (record { low = omega (arith, k.low); high = omega (arith, k.high) })) in
           rw (part_out lo hi d ds e, part_out (lo + a) (lo + b) d ds m) rest
 
 -- ---- what is known
@@ -99,7 +99,7 @@ known_part lo hi (d ∷ ds) p h = go (known_part lo hi ds p h) (among lo hi d.pl
         in
         rw (part_in lo hi d ds e, known_one (from lo d) (part lo hi ds) (p - lo), known_one d ds p, q, rest)
     go rest false e =
-        let q : eqb p d.place ≡ false = ne_eqb p d.place (λ u. not-among lo hi d.place e (record { low = omega arith; high = omega arith })) in
+        let q : eqb p d.place ≡ false = ne_eqb p d.place (λ u. not_among lo hi d.place e (record { low = omega arith; high = omega arith })) in
         rw (part_out lo hi d ds e, known_one d ds p, q) rest
 
 -- ---- how many places
@@ -112,11 +112,11 @@ unfolding distinct
 distinct_none = refl
 
 module _ (lo hi : ℕ) (d : Deposit) (ds : List Deposit) where
-  distinct-in : Among lo hi d.place → distinct (part lo hi (d ∷ ds)) ≡ distinct (part lo hi ds) + on (not (known ds d.place)) 1
-  distinct-in h = rw (part_in lo hi d ds (among-is lo hi d.place h), distinct_one (from lo d) (part lo hi ds), known_part lo hi ds d.place h)
+  distinct_in : Among lo hi d.place → distinct (part lo hi (d ∷ ds)) ≡ distinct (part lo hi ds) + on (not (known ds d.place)) 1
+  distinct_in h = rw (part_in lo hi d ds (among_is lo hi d.place h), distinct_one (from lo d) (part lo hi ds), known_part lo hi ds d.place h)
 
-  distinct-out : (Among lo hi d.place → ⊥) → distinct (part lo hi (d ∷ ds)) ≡ distinct (part lo hi ds)
-  distinct-out n = rw (part_out lo hi d ds (among-not lo hi d.place n))
+  distinct_out : (Among lo hi d.place → ⊥) → distinct (part lo hi (d ∷ ds)) ≡ distinct (part lo hi ds)
+  distinct_out n = rw (part_out lo hi d ds (among_not lo hi d.place n))
 
 -- a part has no more places than the whole
 pub distinct_part : (lo hi : ℕ) (log : List Deposit) → distinct (part lo hi log) ≤ distinct log
@@ -124,8 +124,8 @@ distinct_part lo hi [] = rw (part_none lo hi) (omega arith)
 distinct_part lo hi (d ∷ ds) = go (distinct_part lo hi ds) (among lo hi d.place) refl
   where
     go : distinct (part lo hi ds) ≤ distinct ds → (t : Bool) → among lo hi d.place ≡ t → distinct (part lo hi (d ∷ ds)) ≤ distinct (d ∷ ds)
-    go rest true e = omega (arith, distinct-in lo hi d ds (is_among lo hi d.place e), distinct_one d ds)
-    go rest false e = omega (arith, distinct-out lo hi d ds (not-among lo hi d.place e), distinct_one d ds)
+    go rest true e = omega (arith, distinct_in lo hi d ds (is_among lo hi d.place e), distinct_one d ds)
+    go rest false e = omega (arith, distinct_out lo hi d ds (not_among lo hi d.place e), distinct_one d ds)
 
 -- the places of two parts that meet add up
 pub distinct_join : (lo mid hi : ℕ) → lo ≤ mid → mid ≤ hi → (log : List Deposit) → distinct (part lo mid log) + distinct (part mid hi log) ≡ distinct (part lo hi log)
@@ -135,38 +135,38 @@ distinct_join lo mid hi p q (d ∷ ds) = go (distinct_join lo mid hi p q ds) (am
     go : distinct (part lo mid ds) + distinct (part mid hi ds) ≡ distinct (part lo hi ds) → (t u : Bool) → among lo hi d.place ≡ t → ltb d.place mid ≡ u
         → distinct (part lo mid (d ∷ ds)) + distinct (part mid hi (d ∷ ds)) ≡ distinct (part lo hi (d ∷ ds))
     go rest false u e g =
-        let n = not-among lo hi d.place e in
+        let n = not_among lo hi d.place e in
         omega (
           arith,
-          distinct-out lo hi d ds n,
-          distinct-out lo mid d ds (λ h. n (record { low = h.low; high = omega (arith, h.high) })),
-          distinct-out mid hi d ds (λ h. n (record { low = omega (arith, h.low); high = h.high })),
+          distinct_out lo hi d ds n,
+          distinct_out lo mid d ds (λ h. n (record { low = h.low; high = omega (arith, h.high) })),
+          distinct_out mid hi d ds (λ h. n (record { low = omega (arith, h.low); high = h.high })),
         )
     go rest true true e g =
         let h = is_among lo hi d.place e in
         let k = ltb-true d.place mid g in
-        omega (arith, distinct-in lo hi d ds h, distinct-in lo mid d ds (record { low = h.low; high = k }), distinct-out mid hi d ds (λ m. omega (arith, m.low)))
+        omega (arith, distinct_in lo hi d ds h, distinct_in lo mid d ds (record { low = h.low; high = k }), distinct_out mid hi d ds (λ m. omega (arith, m.low)))
     go rest true false e g =
         let h = is_among lo hi d.place e in
         let k = ltb-false d.place mid g in
-        omega (arith, distinct-in lo hi d ds h, distinct-in mid hi d ds (record { low = k; high = h.high }), distinct-out lo mid d ds (λ m. omega (arith, m.high)))
+        omega (arith, distinct_in lo hi d ds h, distinct_in mid hi d ds (record { low = k; high = h.high }), distinct_out lo mid d ds (λ m. omega (arith, m.high)))
 
 -- ---- sums of a part that does not turn on the place
 module _ (f : Deposit → ℕ) (lo hi : ℕ) (free : (d : Deposit) → f (from lo d) ≡ f d) (t u : ℕ → Bool)
     (in-part : (p : ℕ) → Among lo hi p → u p ≡ t (p - lo)) (outside : (p : ℕ) → (Among lo hi p → ⊥) → u p ≡ false) where
-  total-one : (v : ℕ → Bool) (d : Deposit) (ds : List Deposit) → total f v (d ∷ ds) ≡ on (v d.place) (f d) + total f v ds
+  total_one : (v : ℕ → Bool) (d : Deposit) (ds : List Deposit) → total f v (d ∷ ds) ≡ on (v d.place) (f d) + total f v ds
   unfolding total
-  total-one v d ds = refl
+  total_one v d ds = refl
 
   total_none : (v : ℕ → Bool) → total f v [] ≡ 0
   unfolding total
   total_none v = refl
 
-  pub total-part : (log : List Deposit) → total f t (part lo hi log) ≡ total f u log
-  total-part [] = rw (part_none lo hi) (total_none t ∙ sym (total_none u))
-  total-part (d ∷ ds) = go (total-part ds) (among lo hi d.place) refl
+  pub total_part : (log : List Deposit) → total f t (part lo hi log) ≡ total f u log
+  total_part [] = rw (part_none lo hi) (total_none t ∙ sym (total_none u))
+  total_part (d ∷ ds) = go (total_part ds) (among lo hi d.place) refl
     where
       go : total f t (part lo hi ds) ≡ total f u ds → (b : Bool) → among lo hi d.place ≡ b → total f t (part lo hi (d ∷ ds)) ≡ total f u (d ∷ ds)
       go rest true e =
-          rw (part_in lo hi d ds e, total-one t (from lo d) (part lo hi ds), total-one u d ds, in-part d.place (is_among lo hi d.place e), free d, rest)
-      go rest false e = rw (part_out lo hi d ds e, total-one u d ds, outside d.place (not-among lo hi d.place e)) (omega arith)
+          rw (part_in lo hi d ds e, total_one t (from lo d) (part lo hi ds), total_one u d ds, in-part d.place (is_among lo hi d.place e), free d, rest)
+      go rest false e = rw (part_out lo hi d ds e, total_one u d ds, outside d.place (not_among lo hi d.place e)) (omega arith)

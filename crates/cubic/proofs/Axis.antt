@@ -43,8 +43,8 @@ module _ (m p0 p1 p2 p3 : ℕ) (h : Small (4 * m - 6) p0 p1 p2 p3) (g : 2 ≤ m)
         second = least _ _ _ m (omega (arith, h.second, up p1 p2 p3)) (omega (arith, h.second, down p1 p2 p3));
       }
 
-  pub end-small : Small m p0 ((p0 + p1) / 2) ((p0 + 2 * p1 + p2) / 4) ((p0 + 3 * p1 + 3 * p2 + p3) / 8)
-  end-small =
+  pub end_small : Small m p0 ((p0 + p1) / 2) ((p0 + 2 * p1 + p2) / 4) ((p0 + 3 * p1 + 3 * p2 + p3) / 8)
+  end_small =
       record {
         first = least _ _ _ m (omega (arith, h.first, up p0 p1 p2)) (omega (arith, h.first, down p0 p1 p2));
         second = least _ _ _ m (omega (arith, h.first, h.second, up p0 p1 p2, up p1 p2 p3)) (omega (arith, h.first, h.second, down p0 p1 p2, down p1 p2 p3));

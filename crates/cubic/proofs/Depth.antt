@@ -11,7 +11,7 @@ use Rattle.fixed.specs.Split.{Between, Within}
 use Rattle.line.specs.Range.{Reach}
 use Rattle.cubic.specs.Cubics.{Cubic, curved, start_half, end_half}
 use Rattle.cubic.specs.Depth.{Flat, flat, split, Four}
-use Rattle.cubic.proofs.Axis.{Small, spread, start_small, end-small, unbent}
+use Rattle.cubic.proofs.Axis.{Small, spread, start_small, end_small, unbent}
 
 -- on both axes
 record Tame (m : ℕ) (k : Cubic) : Type 0 where
@@ -26,7 +26,7 @@ start_tame : (m : ℕ) (k : Cubic) → 2 ≤ m → Tame (4 * m - 6) k → Tame m
 start_tame m k g h = record { on_x = start_small m _ _ _ _ h.on_x g; on_y = start_small m _ _ _ _ h.on_y g }
 
 end_tame : (m : ℕ) (k : Cubic) → 2 ≤ m → Tame (4 * m - 6) k → Tame m (end_half k)
-end_tame m k g h = record { on_x = end-small m _ _ _ _ h.on_x g; on_y = end-small m _ _ _ _ h.on_y g }
+end_tame m k g h = record { on_x = end_small m _ _ _ _ h.on_x g; on_y = end_small m _ _ _ _ h.on_y g }
 
 -- how far a cubic may bend that is at most n splits deep
 unfoldable pub bound : ℕ → ℕ
@@ -53,8 +53,8 @@ module _ (n lo hi : ℕ) (g : 2 * (hi - lo) ≤ bound n) where
         second = omega (arith, spread p1 p2 p3 lo hi b.low c.low d.low b.high c.high d.high);
       }
 
-  pub square-flat : (k : Cubic) → Four (Within lo hi) k → Flat n k
-  square-flat k h =
+  pub square_flat : (k : Cubic) → Four (Within lo hi) k → Flat n k
+  square_flat k h =
       tame_flat n k
       (record {
         on_x = axis h.end.x_in h.near_end.x_in h.near_start.x_in h.start.x_in;
@@ -68,7 +68,7 @@ reach_within r = record { x_in = record { low = omega arith; high = r.x_high }; 
 pub reach_flat : (k : Cubic) → Four Reach k → Flat 9 k
 unfolding bound
 reach_flat k h =
-    square-flat 9 (bias - limit) (bias + limit) (omega arith) k
+    square_flat 9 (bias - limit) (bias + limit) (omega arith) k
     (record { end = reach_within h.end; near_end = reach_within h.near_end; near_start = reach_within h.near_start; start = reach_within h.start })
 
 pub flat_more : (n m : ℕ) {k : Cubic} → n ≤ m → Flat n k → Flat m k

@@ -14,15 +14,15 @@ use Rattle.pen.specs.declared.Frame.{Frame}
 use Rattle.pen.specs.declared.Pen.{Pen}
 use Rattle.pen.specs.Marks.{Mark}
 use Rattle.pen.specs.Drawing.{Drew}
-use Rattle.pen.proofs.Adding.{drew-then, drew-none}
+use Rattle.pen.proofs.Adding.{drew_then, drew_none}
 use Rattle.line.specs.Range.{Reach}
 use Rattle.line.specs.Lines.{line_marks, along}
 use Rattle.line.proofs.Points.{along_next, along_none, reach_kept}
 use Rattle.cubic.specs.Cubics.{curved, cubic, cubic_points, start_half, end_half}
 use Rattle.cubic.specs.Depth.{Four}
 use Rattle.cubic.proofs.Depth.{reach_flat}
-use Rattle.cubic.proofs.Run.{Stacked, none, more, points, steps, flat-points, flat-steps, split-stacked, split-few, split-points, split_steps, reach-points}
-use Rattle.cubic.proofs.Stack.{cubic_at, cubics, stack, stack_top, cubics_length, put6, put6_length, segment, pushed, pushed-every}
+use Rattle.cubic.proofs.Run.{Stacked, none, more, points, steps, flat_points, flat_steps, split_stacked, split_few, split_points, split_steps, reach_points}
+use Rattle.cubic.proofs.Stack.{cubic_at, cubics, stack, stack_top, cubics_length, put6, put6_length, segment, pushed, pushed_every}
 
 -- the array holds a stack whose top is at a
 pub record Standing (arc : List FixedPoint) (a : ℕ) : Type 0 where
@@ -43,14 +43,14 @@ module _ (arc : List FixedPoint) (a : ℕ) (h : Standing arc a) where
   top : stack arc a ≡ cubic_at arc a ∷ cubics arc (a / 3)
   top = stack_top arc a h.by3
 
-  top-deep : Stacked (cubic_at arc a ∷ cubics arc (a / 3))
-  top-deep = subst Stacked top h.deep
+  top_deep : Stacked (cubic_at arc a ∷ cubics arc (a / 3))
+  top_deep = subst Stacked top h.deep
 
   -- ---- the top is curved
   module _ (e : curved (cubic_at arc a) ≡ true) where
     -- the stack is not full
     pub room : a ≤ 24
-    room = omega (arith, split-few (cubic_at arc a) (cubics arc (a / 3)) e top-deep, cubics_length arc (a / 3), h.by3)
+    room = omega (arith, split_few (cubic_at arc a) (cubics arc (a / 3)) e top_deep, cubics_length arc (a / 3), h.by3)
 
     module _ (s : List FixedPoint) (q : s ≡ split_cubic (segment arc a)) where
       fits : a + 6 < length arc
@@ -59,8 +59,8 @@ module _ (arc : List FixedPoint) (a : ℕ) (h : Standing arc a) where
       new : stack (put6 arc a s) (a + 3) ≡ start_half (cubic_at arc a) ∷ end_half (cubic_at arc a) ∷ cubics arc (a / 3)
       new = pushed arc a s fits q h.by3
 
-      four-in : Every Reach 4 (segment arc a)
-      four-in = record { at = go }
+      four_in : Every Reach 4 (segment arc a)
+      four_in = record { at = go }
         where
           go : (i : ℕ) → i < 4 → Reach (point_of (segment arc a) i)
           go zero g = h.reach.at a (omega arith)
@@ -69,57 +69,57 @@ module _ (arc : List FixedPoint) (a : ℕ) (h : Standing arc a) where
           go (suc (suc (suc zero))) g = h.reach.at (a + 3) (omega arith)
           go (suc (suc (suc (suc i)))) g = absurd (omega arith)
 
-      pub split-standing : Standing (put6 arc a s) (a + 3)
-      split-standing =
+      pub split_standing : Standing (put6 arc a s) (a + 3)
+      split_standing =
           let u : a + 3 + 4 ≡ a + 7 = omega arith in
           record {
             long = put6_length arc a s ∙ h.long;
             low = omega (arith, room);
             by3 = omega (arith, h.by3);
-            reach = rw u (pushed-every arc a s fits q h.reach (cubic_keeps reach_kept four-in));
-            deep = rw new (split-stacked (cubic_at arc a) (cubics arc (a / 3)) e top-deep);
+            reach = rw u (pushed_every arc a s fits q h.reach (cubic_keeps reach_kept four_in));
+            deep = rw new (split_stacked (cubic_at arc a) (cubics arc (a / 3)) e top_deep);
           }
 
       same_points : points (stack (put6 arc a s) (a + 3)) ≡ points (stack arc a)
-      same_points = ap points new ∙ sym (split-points (cubic_at arc a) (cubics arc (a / 3)) e top-deep) ∙ ap points (sym top)
+      same_points = ap points new ∙ sym (split_points (cubic_at arc a) (cubics arc (a / 3)) e top_deep) ∙ ap points (sym top)
 
-      pub split-less : steps (stack (put6 arc a s) (a + 3)) < steps (stack arc a)
-      split-less =
-          omega (arith, ap steps new, split_steps (cubic_at arc a) (cubics arc (a / 3)) e top-deep, ap steps top)
+      pub split_less : steps (stack (put6 arc a s) (a + 3)) < steps (stack arc a)
+      split_less =
+          omega (arith, ap steps new, split_steps (cubic_at arc a) (cubics arc (a / 3)) e top_deep, ap steps top)
 
   -- ---- the top is drawn
   module _ (e : curved (cubic_at arc a) ≡ false) where
-    next-points : points (stack arc a) ≡ point_of arc a ∷ points (cubics arc (a / 3))
-    next-points = ap points top ∙ flat-points (cubic_at arc a) (cubics arc (a / 3)) e
+    next_points : points (stack arc a) ≡ point_of arc a ∷ points (cubics arc (a / 3))
+    next_points = ap points top ∙ flat_points (cubic_at arc a) (cubics arc (a / 3)) e
 
     pop : 3 ≤ a → suc ((a - 3) / 3) ≡ a / 3
     pop g = omega arith
 
-    rest-deep : Stacked (cubics arc (a / 3))
-    rest-deep = go top-deep
+    rest_deep : Stacked (cubics arc (a / 3))
+    rest_deep = go top_deep
       where
         go : Stacked (cubic_at arc a ∷ cubics arc (a / 3)) → Stacked (cubics arc (a / 3))
         go (more f s) = s
 
-    pub drawn-standing : 3 ≤ a → Standing arc (a - 3)
-    drawn-standing g =
+    pub drawn_standing : 3 ≤ a → Standing arc (a - 3)
+    drawn_standing g =
         record {
           long = h.long;
           low = omega (arith, h.low);
           by3 = omega (arith, h.by3);
           reach = record { at = λ i p. h.reach.at i (omega arith) };
-          deep = rw (pop g) rest-deep;
+          deep = rw (pop g) rest_deep;
         }
 
-    pub drawn-less : 3 ≤ a → steps (stack arc (a - 3)) < steps (stack arc a)
-    drawn-less g = omega (arith, ap (λ k. steps (cubics arc k)) (pop g), flat-steps (cubic_at arc a) (cubics arc (a / 3)) e, ap steps top)
+    pub drawn_less : 3 ≤ a → steps (stack arc (a - 3)) < steps (stack arc a)
+    drawn_less g = omega (arith, ap (λ k. steps (cubics arc k)) (pop g), flat_steps (cubic_at arc a) (cubics arc (a / 3)) e, ap steps top)
 
 module _ (f : Frame) (cap : ℕ) (ws₀ : List ℕ) (start : Pen) (curve : List Mark) (ws : List ℕ) (arc : List FixedPoint) (a : ℕ) (pen : Pen) (from : FixedPoint)
     (g : Going f cap ws₀ start curve ws arc a pen from) where
-  pub going-split : (s : List FixedPoint) → curved (cubic_at arc a) ≡ true → s ≡ split_cubic (segment arc a) → Going f cap ws₀ start curve ws (put6 arc a s) (a + 3) pen from
-  going-split s e q =
+  pub going_split : (s : List FixedPoint) → curved (cubic_at arc a) ≡ true → s ≡ split_cubic (segment arc a) → Going f cap ws₀ start curve ws (put6 arc a s) (a + 3) pen from
+  going_split s e q =
       record {
-        standing = split-standing arc a g.standing e s q;
+        standing = split_standing arc a g.standing e s q;
         from_in = g.from_in;
         made = g.made;
         drew = g.drew;
@@ -131,16 +131,16 @@ module _ (f : Frame) (cap : ℕ) (ws₀ : List ℕ) (start : Pen) (curve : List 
     one_more =
         append_assoc g.made (line_marks f from (point_of arc a)) _
         ∙ ap (λ ms. g.made ++ ms) (sym (along_next f from (point_of arc a) _))
-        ∙ ap (λ ps. g.made ++ along f from ps) (sym (next-points arc a g.standing e))
+        ∙ ap (λ ps. g.made ++ along f from ps) (sym (next_points arc a g.standing e))
         ∙ g.rest
 
-    pub going-drawn : 3 ≤ a → Going f cap ws₀ start curve ws' arc (a - 3) pen' (point_of arc a)
-    going-drawn h =
+    pub going_drawn : 3 ≤ a → Going f cap ws₀ start curve ws' arc (a - 3) pen' (point_of arc a)
+    going_drawn h =
         record {
-          standing = drawn-standing arc a g.standing e h;
+          standing = drawn_standing arc a g.standing e h;
           from_in = g.standing.reach.at a (omega arith);
           made = g.made ++ line_marks f from (point_of arc a);
-          drew = drew-then f cap g.drew d;
+          drew = drew_then f cap g.drew d;
           rest = rw (pop arc a g.standing e h) one_more;
         }
 
@@ -149,41 +149,41 @@ module _ (f : Frame) (cap : ℕ) (ws₀ : List ℕ) (start : Pen) (curve : List 
     going_done z =
         let t : along f (point_of arc a) (points (cubics arc (a / 3))) ≡ [] = ap (λ k. along f (point_of arc a) (points (cubics arc (k / 3)))) z ∙ along_none f (point_of arc a) in
         let u : g.made ++ line_marks f from (point_of arc a) ≡ curve = sym (append-nil _) ∙ ap (λ ms. (g.made ++ line_marks f from (point_of arc a)) ++ ms) (sym t) ∙ one_more in
-        subst (Drew f cap ws₀ ws' start pen') u (drew-then f cap g.drew d)
+        subst (Drew f cap ws₀ ws' start pen') u (drew_then f cap g.drew d)
 
 -- ---- the start
 abbrev pub started : FixedPoint → FixedPoint → FixedPoint → FixedPoint → List FixedPoint
 started a c d b = set (set (set (set (replicate 129 zero_point) 0 b) 1 d) 2 c) 3 a
 
 module _ (a c d b : FixedPoint) (ra : Reach a) (rc : Reach c) (rd : Reach d) (rb : Reach b) where
-  all-four : Four Reach (cubic a c d b)
-  all-four = record { end = rb; near_end = rd; near_start = rc; start = ra }
+  all_four : Four Reach (cubic a c d b)
+  all_four = record { end = rb; near_end = rd; near_start = rc; start = ra }
 
-  four-points : (i : ℕ) → i < 4 → Reach (point_of (started a c d b) i)
-  four-points zero g = rb
-  four-points (suc zero) g = rd
-  four-points (suc (suc zero)) g = rc
-  four-points (suc (suc (suc zero))) g = ra
-  four-points (suc (suc (suc (suc i)))) g = absurd (omega arith)
+  four_points : (i : ℕ) → i < 4 → Reach (point_of (started a c d b) i)
+  four_points zero g = rb
+  four_points (suc zero) g = rd
+  four_points (suc (suc zero)) g = rc
+  four_points (suc (suc (suc zero))) g = ra
+  four_points (suc (suc (suc (suc i)))) g = absurd (omega arith)
 
-  started-standing : Standing (started a c d b) 0
+  started_standing : Standing (started a c d b) 0
   unfolding cubics
-  started-standing =
+  started_standing =
       record {
         long = refl;
         low = omega arith;
         by3 = refl;
-        reach = record { at = four-points };
-        deep = more (reach_flat (cubic a c d b) all-four) none;
+        reach = record { at = four_points };
+        deep = more (reach_flat (cubic a c d b) all_four) none;
       }
 
-  pub going-started : (f : Frame) (cap : ℕ) (ws : List ℕ) (pen : Pen) → Within cap pen.kept → Going f cap ws pen (along f a (cubic_points a c d b)) ws (started a c d b) 0 pen a
+  pub going_started : (f : Frame) (cap : ℕ) (ws : List ℕ) (pen : Pen) → Within cap pen.kept → Going f cap ws pen (along f a (cubic_points a c d b)) ws (started a c d b) 0 pen a
   unfolding cubics
-  going-started f cap ws pen w =
+  going_started f cap ws pen w =
       record {
-        standing = started-standing;
+        standing = started_standing;
         from_in = ra;
         made = [];
-        drew = drew-none f cap w;
-        rest = ap (along f a) (sym (reach-points a c d b all-four));
+        drew = drew_none f cap w;
+        rest = ap (along f a) (sym (reach_points a c d b all_four));
       }

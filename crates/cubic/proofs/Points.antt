@@ -30,8 +30,8 @@ module _ {P : FixedPoint → Type 0} where
   either false r x y z f g h = h
 
   module _ (m : Kept P) where
-    pub start-keeps : {k : Cubic} → Four P k → Four P (start_half k)
-    start-keeps h =
+    pub start_keeps : {k : Cubic} → Four P k → Four P (start_half k)
+    start_keeps h =
         record {
           end = m.four h.end h.near_end h.near_start h.start;
           near_end = m.three h.near_end h.near_start h.start;
@@ -39,8 +39,8 @@ module _ {P : FixedPoint → Type 0} where
           start = h.start;
         }
 
-    pub end-keeps : {k : Cubic} → Four P k → Four P (end_half k)
-    end-keeps h =
+    pub end_keeps : {k : Cubic} → Four P k → Four P (end_half k)
+    end_keeps h =
         record {
           end = h.end;
           near_end = m.two h.end h.near_end;
@@ -48,30 +48,30 @@ module _ {P : FixedPoint → Type 0} where
           start = m.four h.end h.near_end h.near_start h.start;
         }
 
-    from-keeps : (n : ℕ) (to : FixedPoint) (k : Cubic) (ks : List Cubic) → P to → Four P k → Fours P ks → Each P (cubic_from n to k ks)
+    from_keeps : (n : ℕ) (to : FixedPoint) (k : Cubic) (ks : List Cubic) → P to → Four P k → Fours P ks → Each P (cubic_from n to k ks)
     unfolding cubic_from
-    from-keeps zero to k ks t h hs = more t none
-    from-keeps (suc n) to k [] t h hs =
-        either (curved k) true _ (to ∷ []) _ (from-keeps n to (start_half k) (end_half k ∷ []) t (start-keeps h) (four (end-keeps h) hs)) (more t none) (more h.end none)
-    from-keeps (suc n) to k (w ∷ ws) t h (four g gs) =
+    from_keeps zero to k ks t h hs = more t none
+    from_keeps (suc n) to k [] t h hs =
+        either (curved k) true _ (to ∷ []) _ (from_keeps n to (start_half k) (end_half k ∷ []) t (start_keeps h) (four (end_keeps h) hs)) (more t none) (more h.end none)
+    from_keeps (suc n) to k (w ∷ ws) t h (four g gs) =
         either (curved k) (leb (length (w ∷ ws)) 40) _ _ _
-        (from-keeps n to (start_half k) (end_half k ∷ w ∷ ws) t (start-keeps h) (four (end-keeps h) (four g gs))) (more t none)
-        (more h.end (from-keeps n to w ws t g gs))
+        (from_keeps n to (start_half k) (end_half k ∷ w ∷ ws) t (start_keeps h) (four (end_keeps h) (four g gs))) (more t none)
+        (more h.end (from_keeps n to w ws t g gs))
 
     pub points_keep : (a c d b : FixedPoint) → Four P (cubic a c d b) → Each P (cubic_points a c d b)
     unfolding cubic_points
-    points_keep a c d b h = from-keeps 1024 b (cubic a c d b) [] h.end h no_four
+    points_keep a c d b h = from_keeps 1024 b (cubic a c d b) [] h.end h no_four
 
 -- ---- each point is in the box of the four
 module _ (lo hi : ℕ) (a c d b : FixedPoint) where
-  pub x-in-box : Four (λ p. Between lo hi p.x) (cubic a c d b) → Each (λ p. Between lo hi p.x) (cubic_points a c d b)
-  x-in-box h = points_keep (x_kept lo hi) a c d b h
+  pub x_in_box : Four (λ p. Between lo hi p.x) (cubic a c d b) → Each (λ p. Between lo hi p.x) (cubic_points a c d b)
+  x_in_box h = points_keep (x_kept lo hi) a c d b h
 
-  pub y-in-box : Four (λ p. Between lo hi p.y) (cubic a c d b) → Each (λ p. Between lo hi p.y) (cubic_points a c d b)
-  y-in-box h = points_keep (y_kept lo hi) a c d b h
+  pub y_in_box : Four (λ p. Between lo hi p.y) (cubic a c d b) → Each (λ p. Between lo hi p.y) (cubic_points a c d b)
+  y_in_box h = points_keep (y_kept lo hi) a c d b h
 
-  pub within-box : Four (Within lo hi) (cubic a c d b) → Each (Within lo hi) (cubic_points a c d b)
-  within-box h = points_keep (within_kept lo hi) a c d b h
+  pub within_box : Four (Within lo hi) (cubic a c d b) → Each (Within lo hi) (cubic_points a c d b)
+  within_box h = points_keep (within_kept lo hi) a c d b h
 
 pub in_reach : (a c d b : FixedPoint) → Four Reach (cubic a c d b) → Each Reach (cubic_points a c d b)
 in_reach a c d b h = points_keep reach_kept a c d b h
@@ -88,23 +88,23 @@ four_of t a c d b e = go (t a) (t c) (t d) (t b) refl refl refl refl e
     go false y z w p q r s h = absurd (false≢true h)
 
 module _ {P Q : FixedPoint → Type 0} (m : (p : FixedPoint) → P p → Q p) where
-  four-map : {k : Cubic} → Four P k → Four Q k
-  four-map h = record { end = m _ h.end; near_end = m _ h.near_end; near_start = m _ h.near_start; start = m _ h.start }
+  four_map : {k : Cubic} → Four P k → Four Q k
+  four_map h = record { end = m _ h.end; near_end = m _ h.near_end; near_start = m _ h.near_start; start = m _ h.start }
 
   pub each_map : {ps : List FixedPoint} → Each P ps → Each Q ps
   each_map none = none
   each_map (more h hs) = more (m _ h) (each_map hs)
 
 module _ (f : Frame) (a c d b : FixedPoint) where
-  pub each-past : all_past f a c d b ≡ true → Each (λ p. past f p.y ≡ true) (cubic_points a c d b)
-  each-past e =
+  pub each_past : all_past f a c d b ≡ true → Each (λ p. past f p.y ≡ true) (cubic_points a c d b)
+  each_past e =
       each_map (λ p h. le-leb f.end (cell p.y) h)
-      (points_keep (past_kept f.end) a c d b (four-map (λ p h. leb-true f.end (cell p.y) h) (four_of (λ p. past f p.y) a c d b e)))
+      (points_keep (past_kept f.end) a c d b (four_map (λ p h. leb-true f.end (cell p.y) h) (four_of (λ p. past f p.y) a c d b e)))
 
-  pub each-ahead : all_ahead f a c d b ≡ true → Each (λ p. ahead f p.y ≡ true) (cubic_points a c d b)
-  each-ahead e =
+  pub each_ahead : all_ahead f a c d b ≡ true → Each (λ p. ahead f p.y ≡ true) (cubic_points a c d b)
+  each_ahead e =
       each_map (λ p h. lt-ltb (cell p.y) f.first h)
-      (points_keep (ahead_kept f.first) a c d b (four-map (λ p h. ltb-true (cell p.y) f.first h) (four_of (λ p. ahead f p.y) a c d b e)))
+      (points_keep (ahead_kept f.first) a c d b (four_map (λ p h. ltb-true (cell p.y) f.first h) (four_of (λ p. ahead f p.y) a c d b e)))
 
 -- ---- the last point
 -- the end of the lowest cubic
@@ -143,8 +143,8 @@ end_some (later e) = omega arith
 
 -- lines along the points end at b, and there is at least one
 module _ (a c d b : FixedPoint) where
-  pub last-point : end_of a (cubic_points a c d b) ≡ b
-  last-point = end_is (points_end a c d b) a
+  pub last_point : end_of a (cubic_points a c d b) ≡ b
+  last_point = end_is (points_end a c d b) a
 
-  pub some-point : 1 ≤ length (cubic_points a c d b)
-  some-point = end_some (points_end a c d b)
+  pub some_point : 1 ≤ length (cubic_points a c d b)
+  some_point = end_some (points_end a c d b)

@@ -111,27 +111,27 @@ steps [] = 0
 steps (k ∷ ks) = nodes 9 k + steps ks
 
 module _ (k : Cubic) (ks : List Cubic) (e : curved k ≡ false) where
-  pub flat-points : points (k ∷ ks) ≡ k.p0 ∷ points ks
+  pub flat_points : points (k ∷ ks) ≡ k.p0 ∷ points ks
   unfolding points
-  flat-points = rw (flat_halves 9 k e)
+  flat_points = rw (flat_halves 9 k e)
 
-  pub flat-steps : steps (k ∷ ks) ≡ suc (steps ks)
+  pub flat_steps : steps (k ∷ ks) ≡ suc (steps ks)
   unfolding steps
-  flat-steps = omega (arith, flat_nodes 9 k e)
+  flat_steps = omega (arith, flat_nodes 9 k e)
 
 module _ (k : Cubic) (ks : List Cubic) (e : curved k ≡ true) where
-  pub split-stacked : Stacked (k ∷ ks) → Stacked (start_half k ∷ end_half k ∷ ks)
-  split-stacked (more f s) =
+  pub split_stacked : Stacked (k ∷ ks) → Stacked (start_half k ∷ end_half k ∷ ks)
+  split_stacked (more f s) =
       let h = curved_halves (9 - length ks) k f e in
       more (flat_more (9 - length ks - 1) (9 - suc (length ks)) (omega arith) h.start)
       (more (flat_more (9 - length ks - 1) (9 - length ks) (omega arith) h.end) s)
 
-  pub split-few : Stacked (k ∷ ks) → length ks ≤ 8
-  split-few (more f s) = omega (arith, (curved_halves (9 - length ks) k f e).level)
+  pub split_few : Stacked (k ∷ ks) → length ks ≤ 8
+  split_few (more f s) = omega (arith, (curved_halves (9 - length ks) k f e).level)
 
-  pub split-points : Stacked (k ∷ ks) → points (k ∷ ks) ≡ points (start_half k ∷ end_half k ∷ ks)
+  pub split_points : Stacked (k ∷ ks) → points (k ∷ ks) ≡ points (start_half k ∷ end_half k ∷ ks)
   unfolding points
-  split-points (more f s) =
+  split_points (more f s) =
       let h = curved_halves 9 k (flat_more (9 - length ks) 9 (omega arith) f) e in
       rw (split_halves 8 k e, append_assoc, halves_more 8 9 (start_half k) (lit≤ tt) h.start, halves_more 8 9 (end_half k) (lit≤ tt) h.end)
 
@@ -143,13 +143,13 @@ module _ (k : Cubic) (ks : List Cubic) (e : curved k ≡ true) where
 
 steps_some : (k : Cubic) (ks : List Cubic) → Stacked (k ∷ ks) → 1 ≤ steps (k ∷ ks)
 steps_some k ks s =
-    decide k (λ (e : curved k ≡ true). omega (arith, split_steps k ks e s)) (λ (e : curved k ≡ false). omega (arith, flat-steps k ks e))
+    decide k (λ (e : curved k ≡ true). omega (arith, split_steps k ks e s)) (λ (e : curved k ≡ false). omega (arith, flat_steps k ks e))
 
 -- ---- the rule, step by step
 module _ (n : ℕ) (to : FixedPoint) (k : Cubic) where
-  from-split : (ks : List Cubic) → curved k ≡ true → length ks ≤ 40 → cubic_from (suc n) to k ks ≡ cubic_from n to (start_half k) (end_half k ∷ ks)
+  from_split : (ks : List Cubic) → curved k ≡ true → length ks ≤ 40 → cubic_from (suc n) to k ks ≡ cubic_from n to (start_half k) (end_half k ∷ ks)
   unfolding cubic_from
-  from-split ks e h = rw (e, le-leb _ _ h, cubic_from)
+  from_split ks e h = rw (e, le-leb _ _ h, cubic_from)
 
   from_last : curved k ≡ false → cubic_from (suc n) to k [] ≡ k.p0 ∷ []
   unfolding cubic_from
@@ -160,17 +160,17 @@ module _ (n : ℕ) (to : FixedPoint) (k : Cubic) where
   from_next w ws e = rw (e, cubic_from)
 
 module _ (n : ℕ) (k : Cubic) where
-  stuck-split : (ks : List Cubic) → curved k ≡ true → length ks ≤ 40 → stuck (suc n) k ks ≡ stuck n (start_half k) (end_half k ∷ ks)
+  stuck_split : (ks : List Cubic) → curved k ≡ true → length ks ≤ 40 → stuck (suc n) k ks ≡ stuck n (start_half k) (end_half k ∷ ks)
   unfolding stuck
-  stuck-split ks e h = rw (e, le-leb _ _ h, stuck)
+  stuck_split ks e h = rw (e, le-leb _ _ h, stuck)
 
-  stuck-last : curved k ≡ false → stuck (suc n) k [] ≡ false
+  stuck_last : curved k ≡ false → stuck (suc n) k [] ≡ false
   unfolding stuck
-  stuck-last e = rw (e, stuck)
+  stuck_last e = rw (e, stuck)
 
-  stuck-next : (w : Cubic) (ws : List Cubic) → curved k ≡ false → stuck (suc n) k (w ∷ ws) ≡ stuck n w ws
+  stuck_next : (w : Cubic) (ws : List Cubic) → curved k ≡ false → stuck (suc n) k (w ∷ ws) ≡ stuck n w ws
   unfolding stuck
-  stuck-next w ws e = rw (e, stuck)
+  stuck_next w ws e = rw (e, stuck)
 
 -- from any stack, with as many steps as it takes
 runs : (n : ℕ) (to : FixedPoint) (k : Cubic) (ks : List Cubic) → Stacked (k ∷ ks) → steps (k ∷ ks) ≤ n → cubic_from n to k ks ≡ points (k ∷ ks)
@@ -179,33 +179,33 @@ runs zero to k ks s h = absurd (omega (arith, steps_some k ks s))
 runs (suc n) to k [] s h =
     decide k
     (λ (e : curved k ≡ true).
-    from-split n to k [] e (omega arith)
-    ∙ runs n to (start_half k) (end_half k ∷ []) (split-stacked k [] e s) (omega (arith, split_steps k [] e s))
-    ∙ sym (split-points k [] e s))
-    (λ (e : curved k ≡ false). from_last n to k e ∙ sym (flat-points k [] e))
+    from_split n to k [] e (omega arith)
+    ∙ runs n to (start_half k) (end_half k ∷ []) (split_stacked k [] e s) (omega (arith, split_steps k [] e s))
+    ∙ sym (split_points k [] e s))
+    (λ (e : curved k ≡ false). from_last n to k e ∙ sym (flat_points k [] e))
 runs (suc n) to k (w ∷ ws) (more f s) h =
     decide k
     (λ (e : curved k ≡ true).
-    from-split n to k (w ∷ ws) e (omega (arith, split-few k (w ∷ ws) e (more f s)))
-    ∙ runs n to (start_half k) (end_half k ∷ w ∷ ws) (split-stacked k (w ∷ ws) e (more f s)) (omega (arith, split_steps k (w ∷ ws) e (more f s)))
-    ∙ sym (split-points k (w ∷ ws) e (more f s)))
+    from_split n to k (w ∷ ws) e (omega (arith, split_few k (w ∷ ws) e (more f s)))
+    ∙ runs n to (start_half k) (end_half k ∷ w ∷ ws) (split_stacked k (w ∷ ws) e (more f s)) (omega (arith, split_steps k (w ∷ ws) e (more f s)))
+    ∙ sym (split_points k (w ∷ ws) e (more f s)))
     (λ (e : curved k ≡ false).
-    from_next n to k w ws e ∙ ap (λ ps. k.p0 ∷ ps) (runs n to w ws s (omega (arith, flat-steps k (w ∷ ws) e))) ∙ sym (flat-points k (w ∷ ws) e))
+    from_next n to k w ws e ∙ ap (λ ps. k.p0 ∷ ps) (runs n to w ws s (omega (arith, flat_steps k (w ∷ ws) e))) ∙ sym (flat_points k (w ∷ ws) e))
 
 free : (n : ℕ) (k : Cubic) (ks : List Cubic) → Stacked (k ∷ ks) → steps (k ∷ ks) ≤ n → stuck n k ks ≡ false
 free zero k ks s h = absurd (omega (arith, steps_some k ks s))
 free (suc n) k [] s h =
     decide k
     (λ (e : curved k ≡ true).
-    stuck-split n k [] e (omega arith)
-    ∙ free n (start_half k) (end_half k ∷ []) (split-stacked k [] e s) (omega (arith, split_steps k [] e s)))
-    (λ (e : curved k ≡ false). stuck-last n k e)
+    stuck_split n k [] e (omega arith)
+    ∙ free n (start_half k) (end_half k ∷ []) (split_stacked k [] e s) (omega (arith, split_steps k [] e s)))
+    (λ (e : curved k ≡ false). stuck_last n k e)
 free (suc n) k (w ∷ ws) (more f s) h =
     decide k
     (λ (e : curved k ≡ true).
-    stuck-split n k (w ∷ ws) e (omega (arith, split-few k (w ∷ ws) e (more f s)))
-    ∙ free n (start_half k) (end_half k ∷ w ∷ ws) (split-stacked k (w ∷ ws) e (more f s)) (omega (arith, split_steps k (w ∷ ws) e (more f s))))
-    (λ (e : curved k ≡ false). stuck-next n k w ws e ∙ free n w ws s (omega (arith, flat-steps k (w ∷ ws) e)))
+    stuck_split n k (w ∷ ws) e (omega (arith, split_few k (w ∷ ws) e (more f s)))
+    ∙ free n (start_half k) (end_half k ∷ w ∷ ws) (split_stacked k (w ∷ ws) e (more f s)) (omega (arith, split_steps k (w ∷ ws) e (more f s))))
+    (λ (e : curved k ≡ false). stuck_next n k w ws e ∙ free n w ws s (omega (arith, flat_steps k (w ∷ ws) e)))
 
 -- ---- a cubic that is at most nine deep
 one_stacked : (k : Cubic) → Flat 9 k → Stacked (k ∷ [])
@@ -217,20 +217,20 @@ one_steps k = omega (arith, nodes_most 9 k)
 
 module _ (a c d b : FixedPoint) where
   -- the rule's points are those of the stack that holds it alone
-  nine-points : Flat 9 (cubic a c d b) → cubic_points a c d b ≡ points (cubic a c d b ∷ [])
+  nine_points : Flat 9 (cubic a c d b) → cubic_points a c d b ≡ points (cubic a c d b ∷ [])
   unfolding cubic_points
-  nine-points f = runs 1024 b (cubic a c d b) [] (one_stacked _ f) (omega (arith, one_steps (cubic a c d b)))
+  nine_points f = runs 1024 b (cubic a c d b) [] (one_stacked _ f) (omega (arith, one_steps (cubic a c d b)))
 
-  pub reach-points : Four Reach (cubic a c d b) → cubic_points a c d b ≡ points (cubic a c d b ∷ [])
-  reach-points r = nine-points (reach_flat (cubic a c d b) r)
+  pub reach_points : Four Reach (cubic a c d b) → cubic_points a c d b ≡ points (cubic a c d b ∷ [])
+  reach_points r = nine_points (reach_flat (cubic a c d b) r)
 
   -- and of the recursion by halves
-  nine-halves : Flat 9 (cubic a c d b) → cubic_points a c d b ≡ halves 9 (cubic a c d b)
+  nine_halves : Flat 9 (cubic a c d b) → cubic_points a c d b ≡ halves 9 (cubic a c d b)
   unfolding points
-  nine-halves f = nine-points f ∙ append-nil (halves 9 (cubic a c d b))
+  nine_halves f = nine_points f ∙ append-nil (halves 9 (cubic a c d b))
 
-  pub reach-halves : (n : ℕ) → 9 ≤ n → Four Reach (cubic a c d b) → cubic_points a c d b ≡ halves n (cubic a c d b)
-  reach-halves n h r = let f = reach_flat (cubic a c d b) r in nine-halves f ∙ sym (halves_more 9 n (cubic a c d b) h f)
+  pub reach_halves : (n : ℕ) → 9 ≤ n → Four Reach (cubic a c d b) → cubic_points a c d b ≡ halves n (cubic a c d b)
+  reach_halves n h r = let f = reach_flat (cubic a c d b) r in nine_halves f ∙ sym (halves_more 9 n (cubic a c d b) h f)
 
   -- the full stack is never met, and 1024 steps suffice
   pub never_stuck : Four Reach (cubic a c d b) → stuck 1024 (cubic a c d b) [] ≡ false

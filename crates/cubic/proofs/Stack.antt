@@ -81,19 +81,19 @@ unfolding split_cubic
 first_of l a = refl
 
 module _ (l : List FixedPoint) (a : ℕ) (s : List FixedPoint) (h : a + 6 < length l) where
-  put6-at : (i : ℕ) → i < 6 → point_of (put6 l a s) (a + 1 + i) ≡ point_of (six s) i
-  put6-at i g = rw (put6_is l a s) (puts_at l (a + 1) (six s) i (omega arith) g)
+  put6_at : (i : ℕ) → i < 6 → point_of (put6 l a s) (a + 1 + i) ≡ point_of (six s) i
+  put6_at i g = rw (put6_is l a s) (puts_at l (a + 1) (six s) i (omega arith) g)
 
-  put6-low : (i : ℕ) → i ≤ a → point_of (put6 l a s) i ≡ point_of l i
-  put6-low i g = rw (put6_is l a s) (puts_low l (a + 1) (six s) i (omega arith))
+  put6_low : (i : ℕ) → i ≤ a → point_of (put6 l a s) i ≡ point_of l i
+  put6_low i g = rw (put6_is l a s) (puts_low l (a + 1) (six s) i (omega arith))
 
   module _ (e : s ≡ split_cubic (segment l a)) where
     -- the split's points stand from a on
     split_at : (i : ℕ) → i < 7 → point_of (put6 l a s) (a + i) ≡ point_of (split_cubic (segment l a)) i
-    split_at zero g = rw add-zero (put6-low a (omega arith) ∙ first_of l a)
+    split_at zero g = rw add-zero (put6_low a (omega arith) ∙ first_of l a)
     split_at (suc i) g =
         let u : a + suc i ≡ a + 1 + i = omega arith in
-        rw u (put6-at i (le_of_suc-le-suc g) ∙ six_is s i (le_of_suc-le-suc g) ∙ ap (λ t. point_of t (suc i)) e)
+        rw u (put6_at i (le_of_suc-le-suc g) ∙ six_is s i (le_of_suc-le-suc g) ∙ ap (λ t. point_of t (suc i)) e)
 
     -- the halves stand at the top
     pub pushed : 3 * (a / 3) ≡ a → stack (put6 l a s) (a + 3) ≡ start_half (cubic_at l a) ∷ end_half (cubic_at l a) ∷ cubics l (a / 3)
@@ -102,19 +102,19 @@ module _ (l : List FixedPoint) (a : ℕ) (s : List FixedPoint) (h : a + 6 < leng
         let n = put6 l a s in
         let d : (a + 3) / 3 ≡ suc (a / 3) = omega arith in
         let u : 3 * ((a + 3) / 3) ≡ a + 3 = omega arith in
-        let q0 : point_of n a ≡ point_of l a = put6-low a (omega arith) in
+        let q0 : point_of n a ≡ point_of l a = put6_low a (omega arith) in
         let q4 : point_of n (a + 3 + 1) ≡ point_of (split_cubic (segment l a)) 4 = ap (point_of n) (omega arith) ∙ split_at 4 (omega arith) in
         let q5 : point_of n (a + 3 + 2) ≡ point_of (split_cubic (segment l a)) 5 = ap (point_of n) (omega arith) ∙ split_at 5 (omega arith) in
         let q6 : point_of n (a + 3 + 3) ≡ point_of (split_cubic (segment l a)) 6 = ap (point_of n) (omega arith) ∙ split_at 6 (omega arith) in
         stack_top n (a + 3) u
-        ∙ rw (d, stack_top n a m, q4, q5, q6, split_at 3 (omega arith), split_at 2 (omega arith), split_at 1 (omega arith), q0, cubics_same n l (a / 3) (λ i p. put6-low i (omega arith)))
+        ∙ rw (d, stack_top n a m, q4, q5, q6, split_at 3 (omega arith), split_at 2 (omega arith), split_at 1 (omega arith), q0, cubics_same n l (a / 3) (λ i p. put6_low i (omega arith)))
 
     -- what holds of the points below the top, and of a split's seven, holds of the points below the new top
-    pub pushed-every : {P : FixedPoint → Type 0} → Every P (a + 4) l → Every P 7 (split_cubic (segment l a)) → Every P (a + 7) (put6 l a s)
-    pushed-every {P} f g = record { at = λ i p. go i p (leb i a) refl }
+    pub pushed_every : {P : FixedPoint → Type 0} → Every P (a + 4) l → Every P 7 (split_cubic (segment l a)) → Every P (a + 7) (put6 l a s)
+    pushed_every {P} f g = record { at = λ i p. go i p (leb i a) refl }
       where
         go : (i : ℕ) → i < a + 7 → (b : Bool) → leb i a ≡ b → P (point_of (put6 l a s) i)
-        go i p true t = rw (put6-low i (leb-true i a t)) (f.at i (omega (arith, leb-true i a t)))
+        go i p true t = rw (put6_low i (leb-true i a t)) (f.at i (omega (arith, leb-true i a t)))
         go i p false t =
             let o = leb-false i a t in
             let u : i ≡ a + (i - a) = omega arith in

@@ -16,51 +16,51 @@ module _ (p q : Bool) {r : Bool} (e : r ≡ p) where
   pub and_second : r ≡ true → {s : Bool} → s ≡ q → s ≡ (p && q)
   and_second h f = f ∙ rw (sym e ∙ h)
 
-  or-first : r ≡ true → r ≡ (p || q)
-  or-first h = h ∙ rw (sym e ∙ h)
+  or_first : r ≡ true → r ≡ (p || q)
+  or_first h = h ∙ rw (sym e ∙ h)
 
-  or-second : r ≡ false → {s : Bool} → s ≡ q → s ≡ (p || q)
-  or-second h f = f ∙ rw (sym e ∙ h)
+  or_second : r ≡ false → {s : Bool} → s ≡ q → s ≡ (p || q)
+  or_second h f = f ∙ rw (sym e ∙ h)
 
 module _ (p0 p1 p2 p3 : ℕ) {r : Bool} (e : r ≡ far (2 * p0 + p3) (3 * p1)) where
-  pub bent-first : r ≡ true → r ≡ bent p0 p1 p2 p3
+  pub bent_first : r ≡ true → r ≡ bent p0 p1 p2 p3
   unfolding bent
-  bent-first = or-first (far (2 * p0 + p3) (3 * p1)) (far (p0 + 2 * p3) (3 * p2)) e
+  bent_first = or_first (far (2 * p0 + p3) (3 * p1)) (far (p0 + 2 * p3) (3 * p2)) e
 
-  pub bent-second : r ≡ false → {s : Bool} → s ≡ far (p0 + 2 * p3) (3 * p2) → s ≡ bent p0 p1 p2 p3
+  pub bent_second : r ≡ false → {s : Bool} → s ≡ far (p0 + 2 * p3) (3 * p2) → s ≡ bent p0 p1 p2 p3
   unfolding bent
-  bent-second = or-second (far (2 * p0 + p3) (3 * p1)) (far (p0 + 2 * p3) (3 * p2)) e
+  bent_second = or_second (far (2 * p0 + p3) (3 * p1)) (far (p0 + 2 * p3) (3 * p2)) e
 
 module _ (k : Cubic) {r : Bool} (e : r ≡ bent k.p0.x k.p1.x k.p2.x k.p3.x) where
-  pub curved-first : r ≡ true → r ≡ curved k
+  pub curved_first : r ≡ true → r ≡ curved k
   unfolding curved
-  curved-first = or-first _ (bent k.p0.y k.p1.y k.p2.y k.p3.y) e
+  curved_first = or_first _ (bent k.p0.y k.p1.y k.p2.y k.p3.y) e
 
-  pub curved-second : r ≡ false → {s : Bool} → s ≡ bent k.p0.y k.p1.y k.p2.y k.p3.y → s ≡ curved k
+  pub curved_second : r ≡ false → {s : Bool} → s ≡ bent k.p0.y k.p1.y k.p2.y k.p3.y → s ≡ curved k
   unfolding curved
-  curved-second h f = or-second _ _ e h f
+  curved_second h f = or_second _ _ e h f
 
 -- ---- curves all of whose points lie past one edge of the band
 module _ (p q : Bool) (x y : List Mark) where
-  first-side : p ≡ true → cond (p || q) x y ≡ x
-  first-side h = rw h
+  first_side : p ≡ true → cond (p || q) x y ≡ x
+  first_side h = rw h
 
-  second-side : p ≡ false → q ≡ true → cond (p || q) x y ≡ x
-  second-side h g = rw (h, g)
+  second_side : p ≡ false → q ≡ true → cond (p || q) x y ≡ x
+  second_side h g = rw (h, g)
 
-  no-side : p ≡ false → q ≡ false → cond (p || q) x y ≡ y
-  no-side h g = rw (h, g)
+  no_side : p ≡ false → q ≡ false → cond (p || q) x y ≡ y
+  no_side h g = rw (h, g)
 
 module _ (f : Frame) (a c d b : FixedPoint) {r : Bool} (e : r ≡ all_past f a c d b) where
   pub past_none : r ≡ true → cubic_marks f a c d b ≡ []
   unfolding cubic_marks
-  past_none h = first-side _ _ [] (along f a (cubic_points a c d b)) (sym e ∙ h)
+  past_none h = first_side _ _ [] (along f a (cubic_points a c d b)) (sym e ∙ h)
 
   module _ {s : Bool} (g : s ≡ all_ahead f a c d b) (h : r ≡ false) where
-    pub all-ahead : s ≡ true → cubic_marks f a c d b ≡ []
+    pub all_ahead_is : s ≡ true → cubic_marks f a c d b ≡ []
     unfolding cubic_marks
-    all-ahead k = second-side _ _ [] (along f a (cubic_points a c d b)) (sym e ∙ h) (sym g ∙ k)
+    all_ahead_is k = second_side _ _ [] (along f a (cubic_points a c d b)) (sym e ∙ h) (sym g ∙ k)
 
-    pub not-all : s ≡ false → cubic_marks f a c d b ≡ along f a (cubic_points a c d b)
+    pub not_all : s ≡ false → cubic_marks f a c d b ≡ along f a (cubic_points a c d b)
     unfolding cubic_marks
-    not-all k = no-side _ _ [] (along f a (cubic_points a c d b)) (sym e ∙ h) (sym g ∙ k)
+    not_all k = no_side _ _ [] (along f a (cubic_points a c d b)) (sym e ∙ h) (sym g ∙ k)

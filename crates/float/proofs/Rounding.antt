@@ -97,18 +97,18 @@ module _ (v : Float) (x : Cut) (t : T (fits binary32 v)) (p : x ≡ cut_of v) wh
   answer : (y : Float) → y ≡ down_from v x → y ≡ floor_of v
   answer y q = q ∙ ap (down_from v) p ∙ floor_cut v t
 
-  pub floor-below : (b : Bool) (n : ℕ) (r : Bool) → x ≡ Near b n r → r ≡ true → b ≡ true → neg (of_int binary32 (pos (n + 1))) ≡ floor_of v
+  pub floor_below : (b : Bool) (n : ℕ) (r : Bool) → x ≡ Near b n r → r ≡ true → b ≡ true → neg (of_int binary32 (pos (n + 1))) ≡ floor_of v
   unfolding down_from
-  floor-below b n r q h k = answer _ (simp (q, h, k))
+  floor_below b n r q h k = answer _ (simp (q, h, k))
 
-  pub floor-above : (b : Bool) (n : ℕ) (r : Bool) → x ≡ Near b n r → r ≡ true → b ≡ false → of_int binary32 (pos n) ≡ floor_of v
+  pub floor_above : (b : Bool) (n : ℕ) (r : Bool) → x ≡ Near b n r → r ≡ true → b ≡ false → of_int binary32 (pos n) ≡ floor_of v
   unfolding down_from
-  floor-above b n r q h k = answer _ (simp (q, h, k))
+  floor_above b n r q h k = answer _ (simp (q, h, k))
 
-  pub floor-whole : (b : Bool) (n : ℕ) (r : Bool) → x ≡ Near b n r → r ≡ false → v ≡ floor_of v
+  pub floor_whole : (b : Bool) (n : ℕ) (r : Bool) → x ≡ Near b n r → r ≡ false → v ≡ floor_of v
   unfolding down_from
-  floor-whole b n r q h = answer _ (simp (q, h))
+  floor_whole b n r q h = answer _ (simp (q, h))
 
-  pub floor-far : x ≡ Far → v ≡ floor_of v
+  pub floor_far : x ≡ Far → v ≡ floor_of v
   unfolding down_from
-  floor-far q = answer _ (simp q)
+  floor_far q = answer _ (simp q)

@@ -55,31 +55,31 @@ module _ (v : Float) (b : Bool) (n : ℕ) (r : Bool) (p : cut_of v ≡ Near b n 
   unfolding held_around
   too_far h = sym (ap (λ (u : Bool). pick_around u (sides.Near (held (floor_z v)) (held (ceil_z v))) sides.Far) (near_reach v b n r p ∙ le-ltb _ _ h))
 
-  near-enough : n < 2 ^ 23 → held_around v ≡ sides.Near (held (floor_z v)) (held (ceil_z v))
+  near_enough : n < 2 ^ 23 → held_around v ≡ sides.Near (held (floor_z v)) (held (ceil_z v))
   unfolding held_around
-  near-enough h = ap (λ (u : Bool). pick_around u (sides.Near (held (floor_z v)) (held (ceil_z v))) sides.Far) (near_reach v b n r p ∙ lt-ltb _ _ h)
+  near_enough h = ap (λ (u : Bool). pick_around u (sides.Near (held (floor_z v)) (held (ceil_z v))) sides.Far) (near_reach v b n r p ∙ lt-ltb _ _ h)
 
   more : n + bool_byte r ≡ n + cond r 1 0
   more = ap (λ (x : ℕ). n + x) (byte_is r)
 
-  pub around-below : n < 2 ^ 23 → b ≡ true → sides.Near (2 ^ 24 - (n + bool_byte r)) (2 ^ 24 - n) ≡ held_around v
-  around-below h q =
+  pub around_below : n < 2 ^ 23 → b ≡ true → sides.Near (2 ^ 24 - (n + bool_byte r)) (2 ^ 24 - n) ≡ held_around v
+  around_below h q =
       let w = around_cut v b n r p in
       let lo : floor_z v ≡ neg_ℤ (pos (n + cond r 1 0)) = w.0 ∙ ap (λ (u : Bool). cond u (neg_ℤ (pos (n + cond r 1 0))) (pos n)) q in
       let hi : ceil_z v ≡ neg_ℤ (pos n) = w.1 ∙ ap (λ (u : Bool). cond u (neg_ℤ (pos n)) (pos (n + cond r 1 0))) q in
-      sym (near-enough h
+      sym (near_enough h
       ∙ ap (λ (z : ℤ). sides.Near (held z) (held (ceil_z v))) lo
       ∙ ap (λ (z : ℤ). sides.Near (held (neg_ℤ (pos (n + cond r 1 0)))) (held z)) hi
       ∙ ap (λ (x : ℕ). sides.Near x (held (neg_ℤ (pos n)))) (held_neg (n + cond r 1 0))
       ∙ ap (λ (x : ℕ). sides.Near (2 ^ 24 - (n + cond r 1 0)) x) (held_neg n)
       ∙ ap (λ (x : ℕ). sides.Near (2 ^ 24 - x) (2 ^ 24 - n)) (sym more))
 
-  pub around-above : n < 2 ^ 23 → b ≡ false → sides.Near (2 ^ 24 + n) (2 ^ 24 + (n + bool_byte r)) ≡ held_around v
-  around-above h q =
+  pub around_above : n < 2 ^ 23 → b ≡ false → sides.Near (2 ^ 24 + n) (2 ^ 24 + (n + bool_byte r)) ≡ held_around v
+  around_above h q =
       let w = around_cut v b n r p in
       let lo : floor_z v ≡ pos n = w.0 ∙ ap (λ (u : Bool). cond u (neg_ℤ (pos (n + cond r 1 0))) (pos n)) q in
       let hi : ceil_z v ≡ pos (n + cond r 1 0) = w.1 ∙ ap (λ (u : Bool). cond u (neg_ℤ (pos n)) (pos (n + cond r 1 0))) q in
-      sym (near-enough h
+      sym (near_enough h
       ∙ ap (λ (z : ℤ). sides.Near (held z) (held (ceil_z v))) lo
       ∙ ap (λ (z : ℤ). sides.Near (2 ^ 24 + n) (held z)) hi
       ∙ ap (λ (x : ℕ). sides.Near (2 ^ 24 + n) (2 ^ 24 + x)) (sym more))

@@ -39,8 +39,8 @@ module _ (l : Label) (z : Sized l) where
       omega arith
 
   -- and so is the record that 13 names
-  pub early-record : (words bytes i : ℕ) (k : Pool) → bytes ≤ most_bytes → k ≡ Full i → Within (pool_of l words) bytes k → i ≤ most_bytes
-  early-record words bytes i k b e h =
+  pub early_record : (words bytes i : ℕ) (k : Pool) → bytes ≤ most_bytes → k ≡ Full i → Within (pool_of l words) bytes k → i ≤ most_bytes
+  early_record words bytes i k b e h =
       let few : i ≤ bytes = rw e at h in
       omega arith
 
@@ -60,10 +60,10 @@ module _ (l : Label) (z : Sized l) where
 
   -- ---- the outcome
   module _ (records cut : ℕ) (s mask ws ws' : List ℕ) where
-    pub inked-full : (i : ℕ) (k : Pool) → k ≡ Full i → Poured l s ws ws' k → (ws'' : List ℕ) → ws'' ≡ replicate (length ws') 0
+    pub inked_full : (i : ℕ) (k : Pool) → k ≡ Full i → Poured l s ws ws' k → (ws'' : List ℕ) → ws'' ≡ replicate (length ws') 0
         → Inked (ran_out l (length ws)) l records cut s mask ws (outcome (Refused refusal.Full i) mask ws'')
     unfolding inked
-    inked-full i k f p ws'' e =
+    inked_full i k f p ws'' e =
         record {
           rule = λ cs a m m'.
               let log = log_of l cs in
@@ -71,10 +71,10 @@ module _ (l : Label) (z : Sized l) where
               rw (lt-ltb _ _ full.0, full.1, e, p.same);
         }
 
-    pub inked-cells : (n : ℕ) (k : Pool) → k ≡ Cells n → Poured l s ws ws' k → (mask' : List ℕ) → masks.Swept ws' mask mask' (rows l) n l.width l.fill l.up l.pitch
+    pub inked_cells : (n : ℕ) (k : Pool) → k ≡ Cells n → Poured l s ws ws' k → (mask' : List ℕ) → masks.Swept ws' mask mask' (rows l) n l.width l.fill l.up l.pitch
         → (ws'' : List ℕ) → ws'' ≡ replicate (length ws') 0 → Inked (ran_out l (length ws)) l records cut s mask ws (outcome (Drawn records n cut) mask' ws'')
     unfolding inked painted_of
-    inked-cells n k f p mask' w ws'' e =
+    inked_cells n k f p mask' w ws'' e =
         record {
           rule = λ cs a m m'.
               let log = log_of l cs in

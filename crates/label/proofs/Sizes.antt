@@ -33,9 +33,9 @@ module _ (l : Label) (mask words : ℕ) where
   too_high h g = rw (le-ltb _ _ h, lt-ltb _ _ g)
 
   module _ (a : l.width ≤ most_pixels) (b : l.height ≤ most_pixels) where
-    pub turned-band : l.end < l.first → Faulty Band ≡ sizes_of l mask words
+    pub turned_band : l.end < l.first → Faulty Band ≡ sizes_of l mask words
     unfolding sizes_of
-    turned-band h = rw (le-ltb _ _ a, le-ltb _ _ b, lt-ltb _ _ h)
+    turned_band h = rw (le-ltb _ _ a, le-ltb _ _ b, lt-ltb _ _ h)
 
     pub band_below : l.first ≤ l.end → l.height < l.end → Faulty Band ≡ sizes_of l mask words
     unfolding sizes_of
@@ -122,8 +122,8 @@ module _ (l : Label) (list mask words : ℕ) (e : checked_of l list mask words �
   pub fitting : Fitting l mask words
   fitting = sizes_fit l mask words halves.0
 
-  pub short-list : list ≤ most_bytes
-  short-list = list_fits l list halves.1
+  pub short_list : list ≤ most_bytes
+  short_list = list_fits l list halves.1
 
 -- the two parts of the check, one after the other
 pub sizes_then : (l : Label) (list mask words : ℕ) → sizes_of l mask words ≡ Fine → inputs_of l.transform l.offset list ≡ checked_of l list mask words

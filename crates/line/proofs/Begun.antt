@@ -18,8 +18,8 @@ split k w a z e = rw (← e, mul-add k w a, mul_comm k a)
 
 module _ (l : Ends) (c r fx fy P : ℕ) (ex : 256 * c + fx ≡ l.x1) (lx : fx < 256) (ey : 256 * r + fy ≡ l.y1) (ly : fy < 256)
     (e : P + fy * l.x1 + fx * l.y2 ≡ B + fy * l.x2 + fx * l.y1) where
-  begun-ne : (a b : ℕ) → 0 < a → 0 < b → l.x1 + a ≡ l.x2 → l.y1 + b ≡ l.y2 → NE l c r P
-  begun-ne a b ha hb sx sy =
+  begun_ne : (a b : ℕ) → 0 < a → 0 < b → l.x1 + a ≡ l.x2 → l.y1 + b ≡ l.y2 → NE l c r P
+  begun_ne a b ha hb sx sy =
       let m : P + b * fx ≡ B + a * fy = omega (arith, split fy _ _ _ sx, split fx _ _ _ sy) in
       let j : b * fx ≤ b * 255 = mul-le-mul_left b (omega arith) in
       let k : a * fy ≤ a * 255 = mul-le-mul_left a (omega arith) in
@@ -35,8 +35,8 @@ module _ (l : Ends) (c r fx fy P : ℕ) (ex : 256 * c + fx ≡ l.x1) (lx : fx < 
         exact = omega (arith, mul-add b fx a, mul-add a fy b, mul_comm a b);
       }
 
-  begun-nw : (a b g : ℕ) → 0 < a → 0 < b → g + fx ≡ 256 → l.x2 + a ≡ l.x1 → l.y1 + b ≡ l.y2 → NW l c r P
-  begun-nw a b g ha hb hg sx sy =
+  begun_nw : (a b g : ℕ) → 0 < a → 0 < b → g + fx ≡ 256 → l.x2 + a ≡ l.x1 → l.y1 + b ≡ l.y2 → NW l c r P
+  begun_nw a b g ha hb hg sx sy =
       let m : P + a * fy + b * fx ≡ B = omega (arith, split fy _ _ _ sx, split fx _ _ _ sy) in
       let j : b * fx ≤ b * 255 = mul-le-mul_left b (omega arith) in
       let k : a * fy ≤ a * 255 = mul-le-mul_left a (omega arith) in
@@ -52,8 +52,8 @@ module _ (l : Ends) (c r fx fy P : ℕ) (ex : 256 * c + fx ≡ l.x1) (lx : fx < 
         exact = omega (arith, mul-add b g a, mul-add a fy b, mul_comm a b, mul-add b g fx, ap (λ (n : ℕ). b * n) hg);
       }
 
-  begun-se : (a b g : ℕ) → 0 < a → 0 < b → g + fy ≡ 256 → l.x1 + a ≡ l.x2 → l.y2 + b ≡ l.y1 → SE l c r P
-  begun-se a b g ha hb hg sx sy =
+  begun_se : (a b g : ℕ) → 0 < a → 0 < b → g + fy ≡ 256 → l.x1 + a ≡ l.x2 → l.y2 + b ≡ l.y1 → SE l c r P
+  begun_se a b g ha hb hg sx sy =
       let m : P ≡ B + a * fy + b * fx = omega (arith, split fy _ _ _ sx, split fx _ _ _ sy) in
       let j : b * fx ≤ b * 255 = mul-le-mul_left b (omega arith) in
       let k : a * fy ≤ a * 255 = mul-le-mul_left a (omega arith) in
@@ -69,8 +69,8 @@ module _ (l : Ends) (c r fx fy P : ℕ) (ex : 256 * c + fx ≡ l.x1) (lx : fx < 
         exact = omega (arith, mul-add b fx a, mul-add a g b, mul_comm a b, mul-add a g fy, ap (λ (n : ℕ). a * n) hg);
       }
 
-  begun-sw : (a b g h : ℕ) → 0 < a → 0 < b → g + fx ≡ 256 → h + fy ≡ 256 → l.x2 + a ≡ l.x1 → l.y2 + b ≡ l.y1 → SW l c r P
-  begun-sw a b g h ha hb hg hh sx sy =
+  begun_sw : (a b g h : ℕ) → 0 < a → 0 < b → g + fx ≡ 256 → h + fy ≡ 256 → l.x2 + a ≡ l.x1 → l.y2 + b ≡ l.y1 → SW l c r P
+  begun_sw a b g h ha hb hg hh sx sy =
       let m : P + a * fy ≡ B + b * fx = omega (arith, split fy _ _ _ sx, split fx _ _ _ sy) in
       let j : b * fx ≤ b * 255 = mul-le-mul_left b (omega arith) in
       let k : a * fy ≤ a * 255 = mul-le-mul_left a (omega arith) in
@@ -89,18 +89,18 @@ module _ (l : Ends) (c r fx fy P : ℕ) (ex : 256 * c + fx ≡ l.x1) (lx : fx < 
   pub begun : (l.x1 ≡ l.x2 → ⊥) → (l.y1 ≡ l.y2 → ⊥) → Course l c r P
   begun nx ny = ⊎_elim
       (λ hx. ⊎_elim
-      (λ hy. ne (begun-ne (l.x2 - l.x1) (l.y2 - l.y1) (omega arith) (omega arith) (omega arith) (omega arith)))
-      (λ hy. se (begun-se (l.x2 - l.x1) (l.y1 - l.y2) (256 - fy) (omega arith) (omega arith) (omega arith) (omega arith) (omega arith)))
+      (λ hy. ne (begun_ne (l.x2 - l.x1) (l.y2 - l.y1) (omega arith) (omega arith) (omega arith) (omega arith)))
+      (λ hy. se (begun_se (l.x2 - l.x1) (l.y1 - l.y2) (256 - fy) (omega arith) (omega arith) (omega arith) (omega arith) (omega arith)))
       (which l.y1 l.y2))
       (λ hx. ⊎_elim
-      (λ hy. nw (begun-nw (l.x1 - l.x2) (l.y2 - l.y1) (256 - fx) (omega arith) (omega arith) (omega arith) (omega arith) (omega arith)))
-      (λ hy. sw (begun-sw (l.x1 - l.x2) (l.y1 - l.y2) (256 - fx) (256 - fy) (omega arith) (omega arith) (omega arith) (omega arith) (omega arith) (omega arith)))
+      (λ hy. nw (begun_nw (l.x1 - l.x2) (l.y2 - l.y1) (256 - fx) (omega arith) (omega arith) (omega arith) (omega arith) (omega arith)))
+      (λ hy. sw (begun_sw (l.x1 - l.x2) (l.y1 - l.y2) (256 - fx) (256 - fy) (omega arith) (omega arith) (omega arith) (omega arith) (omega arith) (omega arith)))
       (which l.y1 l.y2))
       (which l.x1 l.x2)
 
   -- p there, as the rules have it
-  pub begun-p : P ⊖ B ≡ dx l *ℤ pos fy -ℤ dy l *ℤ pos fx
-  begun-p = ⊖_same P B (fy * l.x2 + fx * l.y1) (fy * l.x1 + fx * l.y2) (omega arith)
+  pub begun_p : P ⊖ B ≡ dx l *ℤ pos fy -ℤ dy l *ℤ pos fx
+  begun_p = ⊖_same P B (fy * l.x2 + fx * l.y1) (fy * l.x1 + fx * l.y2) (omega arith)
       ∙ sym (simp (*ℤ_comm (dx l) (pos fy), *ℤ_comm (dy l) (pos fx), ⊖_mul, ⊖_neg, ⊖_add))
 
 pub mul_low : (f z : ℕ) → f < 256 → z < 2 ^ 22 → f * z ≤ 255 * 4194303
@@ -114,5 +114,5 @@ pub begun_line : (l : Ends) (P : ℕ) → Bounded l → Slanted l →
     Under l P (start l) × (P ⊖ B ≡ p l (start l))
 begun_line l P b n e = (
   on_course l b P (start l) (begun l _ _ (l.x1 % 256) (l.y1 % 256) P (omega arith) (omega arith) (omega arith) (omega arith) e n.wide n.high) (omega arith) (omega arith),
-  begun-p l (l.x1 / 256) (l.y1 / 256) (l.x1 % 256) (l.y1 % 256) P (omega arith) (omega arith) (omega arith) (omega arith) e,
+  begun_p l (l.x1 / 256) (l.y1 / 256) (l.x1 % 256) (l.y1 % 256) P (omega arith) (omega arith) (omega arith) (omega arith) e,
 )

@@ -16,28 +16,28 @@ use Rattle.line.specs.Walk.{start, last, upright, row_side, p, crossed}
 use Rattle.line.specs.Lines.{ends, sides, within, marks_of, skips, marks_in, line_marks}
 use Rattle.line.specs.Range.{Reach}
 use Rattle.line.specs.Course.{Bounded, rows_to}
-use Rattle.line.proofs.Tests.{no_le, no-lts, no_eq, yes_le, yes-lts, yes-eq}
+use Rattle.line.proofs.Tests.{no_le, no_lts, no_eq, yes_le, yes_lts, yes_eq}
 
 module _ (l : Ends) where
-  pub marks-within : cell l.x1 ≡ cell l.x2 → cell l.y1 ≡ cell l.y2 → marks_of l ≡ last l (start l)
+  pub marks_within : cell l.x1 ≡ cell l.x2 → cell l.y1 ≡ cell l.y2 → marks_of l ≡ last l (start l)
   unfolding marks_of
-  marks-within e g = rw (yes-eq (cell l.x1) (cell l.x2) (cell l.y1) (cell l.y2) e g)
+  marks_within e g = rw (yes_eq (cell l.x1) (cell l.x2) (cell l.y1) (cell l.y2) e g)
 
   module _ (apart : cell l.x1 ≡ cell l.x2 → cell l.y1 ≡ cell l.y2 → ⊥) where
     out : within l ≡ false
     out = no_eq (cell l.x1) (cell l.x2) (cell l.y1) (cell l.y2) apart
 
-    pub marks-level : l.y1 ≡ l.y2 → marks_of l ≡ enter (cell l.x2) (cell l.y2) ∷ []
+    pub marks_level : l.y1 ≡ l.y2 → marks_of l ≡ enter (cell l.x2) (cell l.y2) ∷ []
     unfolding marks_of
-    marks-level e = rw (out, eq-eqb l.y1 l.y2 e)
+    marks_level e = rw (out, eq-eqb l.y1 l.y2 e)
 
-    pub marks-vertical : (l.y1 ≡ l.y2 → ⊥) → l.x1 ≡ l.x2 → marks_of l ≡ upright (sides l) (row_side l) l (start l)
+    pub marks_vertical : (l.y1 ≡ l.y2 → ⊥) → l.x1 ≡ l.x2 → marks_of l ≡ upright (sides l) (row_side l) l (start l)
     unfolding marks_of
-    marks-vertical n e = rw (out, ne_eqb l.y1 l.y2 n, eq-eqb l.x1 l.x2 e)
+    marks_vertical n e = rw (out, ne_eqb l.y1 l.y2 n, eq-eqb l.x1 l.x2 e)
 
-    pub marks-slanted : (l.y1 ≡ l.y2 → ⊥) → (l.x1 ≡ l.x2 → ⊥) → marks_of l ≡ crossed (sides l) l (p l (start l)) (start l)
+    pub marks_slanted : (l.y1 ≡ l.y2 → ⊥) → (l.x1 ≡ l.x2 → ⊥) → marks_of l ≡ crossed (sides l) l (p l (start l)) (start l)
     unfolding marks_of
-    marks-slanted n m = rw (out, ne_eqb l.y1 l.y2 n, ne_eqb l.x1 l.x2 m)
+    marks_slanted n m = rw (out, ne_eqb l.y1 l.y2 n, ne_eqb l.x1 l.x2 m)
 
 -- a vertical line crosses rows only
 pub sides_vertical : (l : Ends) → l.x1 ≡ l.x2 → rows_to l (cell l.y1) ≡ sides l
@@ -45,18 +45,18 @@ sides_vertical l e = rw e (omega arith)
 
 -- ---- the band
 module _ (f : Frame) (l : Ends) where
-  pub skips-past : f.end ≤ cell l.y1 → f.end ≤ cell l.y2 → skips f l ≡ true
-  skips-past h g = rw (yes_le f.end (cell l.y1) f.end (cell l.y2) h g)
+  pub skips_past : f.end ≤ cell l.y1 → f.end ≤ cell l.y2 → skips f l ≡ true
+  skips_past h g = rw (yes_le f.end (cell l.y1) f.end (cell l.y2) h g)
 
-  pub skips-ahead : cell l.y1 < f.first → cell l.y2 < f.first → skips f l ≡ true
-  skips-ahead h g = rw (yes-lts (cell l.y1) f.first (cell l.y2) f.first h g, or-true _)
+  pub skips_ahead : cell l.y1 < f.first → cell l.y2 < f.first → skips f l ≡ true
+  skips_ahead h g = rw (yes_lts (cell l.y1) f.first (cell l.y2) f.first h g, or-true _)
 
-  pub skips-not : (f.end ≤ cell l.y1 → cell l.y2 < f.end) → (cell l.y1 < f.first → f.first ≤ cell l.y2) → skips f l ≡ false
-  skips-not h g = rw (no_le f.end (cell l.y1) f.end (cell l.y2) h, no-lts (cell l.y1) f.first (cell l.y2) f.first g)
+  pub skips_not : (f.end ≤ cell l.y1 → cell l.y2 < f.end) → (cell l.y1 < f.first → f.first ≤ cell l.y2) → skips f l ≡ false
+  skips_not h g = rw (no_le f.end (cell l.y1) f.end (cell l.y2) h, no_lts (cell l.y1) f.first (cell l.y2) f.first g)
 
   -- which edge of the band a skipped line is past
-  pub skips-which : skips f l ≡ true → ((f.end ≤ cell l.y1) × (f.end ≤ cell l.y2)) ⊎ ((cell l.y1 < f.first) × (cell l.y2 < f.first))
-  skips-which e = go (leb f.end (cell l.y1)) (leb f.end (cell l.y2)) (ltb (cell l.y1) f.first) (ltb (cell l.y2) f.first) refl refl refl refl e
+  pub skips_which : skips f l ≡ true → ((f.end ≤ cell l.y1) × (f.end ≤ cell l.y2)) ⊎ ((cell l.y1 < f.first) × (cell l.y2 < f.first))
+  skips_which e = go (leb f.end (cell l.y1)) (leb f.end (cell l.y2)) (ltb (cell l.y1) f.first) (ltb (cell l.y2) f.first) refl refl refl refl e
     where
       go : (i j m n : Bool) → leb f.end (cell l.y1) ≡ i → leb f.end (cell l.y2) ≡ j → ltb (cell l.y1) f.first ≡ m → ltb (cell l.y2) f.first ≡ n
           → (i && j || m && n) ≡ true → ((f.end ≤ cell l.y1) × (f.end ≤ cell l.y2)) ⊎ ((cell l.y1 < f.first) × (cell l.y2 < f.first))
@@ -68,13 +68,13 @@ module _ (f : Frame) (l : Ends) where
       go false j true false p q r s e = absurd (false≢true e)
       go false j false n p q r s e = absurd (false≢true e)
 
-  pub marks-skipped : skips f l ≡ true → marks_in f l ≡ []
+  pub marks_skipped : skips f l ≡ true → marks_in f l ≡ []
   unfolding marks_in
-  marks-skipped e = rw e
+  marks_skipped e = rw e
 
-  pub marks-kept : skips f l ≡ false → marks_in f l ≡ marks_of l
+  pub marks_kept : skips f l ≡ false → marks_in f l ≡ marks_of l
   unfolding marks_in
-  marks-kept e = rw e
+  marks_kept e = rw e
 
 pub line_is : (f : Frame) (a b : FixedPoint) → line_marks f a b ≡ marks_in f (ends a b)
 unfolding line_marks

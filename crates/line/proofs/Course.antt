@@ -13,7 +13,7 @@ use Rattle.line.specs.declared.Side.{Side}
 use Rattle.line.specs.declared.Side.TheVariants.{Left, Next, Right, Previous}
 use Rattle.line.specs.Walk.{way}
 use Rattle.line.specs.Course.{B, Bounded, Near, Fwd, Bwd, NE, NW, SE, SW, Course, ne, nw, se, sw, togo}
-use Rattle.line.proofs.Ways.{to-left, to-next, to-right, to-previous}
+use Rattle.line.proofs.Ways.{to_left, to_next, to_right, to_previous}
 
 -- a move: its crossing is A − D over d, and it leads to cell (c', r') with P'
 pub record Move (l : Ends) (c r A D d c' r' P' : ℕ) : Type 0 where
@@ -57,18 +57,18 @@ module _ (l : Ends) (c r P : ℕ) where
 
   -- dx > 0, dy > 0
   module _ (i : NE l c r P) where
-    ne-v : 0 < i.u / 256 + i.v / 256 → S0 < S1 → 256 ≤ i.v
-    ne-v h g = ⊎_elim
+    ne_v : 0 < i.u / 256 + i.v / 256 → S0 < S1 → 256 ≤ i.v
+    ne_v h g = ⊎_elim
         (λ z. absurd (omega (arith, mul-le-mul_left {m = i.v} {n = 255} i.a (omega arith), mul-le-mul_left {m = 256} {n = i.u} i.b (omega arith))))
         (λ z. z) (which i.v 256)
 
-    ne-u : 0 < i.u / 256 + i.v / 256 → S1 ≤ S0 → 256 ≤ i.u
-    ne-u h g = ⊎_elim
+    ne_u : 0 < i.u / 256 + i.v / 256 → S1 ≤ S0 → 256 ≤ i.u
+    ne_u h g = ⊎_elim
         (λ z. absurd (omega (arith, mul-le-mul_left {m = 256} {n = i.v} i.a (omega arith), mul-le-mul_left {m = i.u} {n = 255} i.b (omega arith))))
         (λ z. z) (which i.u 256)
 
-    ne-next : (P' w : ℕ) → i.v ≡ w + 256 → S0 < S1 → P' + 256 * l.x2 ≡ P + 256 * l.x1 → NE l c (r + 1) P'
-    ne-next P' w e g k = record {
+    ne_next : (P' w : ℕ) → i.v ≡ w + 256 → S0 < S1 → P' + 256 * l.x2 ≡ P + 256 * l.x1 → NE l c (r + 1) P'
+    ne_next P' w e g k = record {
       a = i.a;
       b = i.b;
       u = i.u;
@@ -95,18 +95,18 @@ module _ (l : Ends) (c r P : ℕ) where
 
   -- dx < 0, dy > 0
   module _ (i : NW l c r P) where
-    nw-u : 1 < (i.u + 255) / 256 + i.v / 256 → B + 256 * l.x2 < P + 256 * l.x1 → 256 < i.u
-    nw-u h g = ⊎_elim (λ z. z)
+    nw_u : 1 < (i.u + 255) / 256 + i.v / 256 → B + 256 * l.x2 < P + 256 * l.x1 → 256 < i.u
+    nw_u h g = ⊎_elim (λ z. z)
         (λ z. absurd (omega (arith, mul-le-mul_left {m = 256} {n = i.v} i.a (omega arith), mul-le-mul_left {m = i.u} {n = 256} i.b z)))
         (which 256 i.u)
 
-    nw-v : 1 < (i.u + 255) / 256 + i.v / 256 → P + 256 * l.x1 ≤ B + 256 * l.x2 → 256 ≤ i.v
-    nw-v h g = ⊎_elim
+    nw_v : 1 < (i.u + 255) / 256 + i.v / 256 → P + 256 * l.x1 ≤ B + 256 * l.x2 → 256 ≤ i.v
+    nw_v h g = ⊎_elim
         (λ z. absurd (omega (arith, mul-le-mul_left {m = i.v} {n = 255} i.a (omega arith), mul-le-mul_left {m = 257} {n = i.u} i.b (omega arith))))
         (λ z. z) (which i.v 256)
 
-    nw-left : (P' w d : ℕ) → i.u ≡ w + 256 → 0 < w → c ≡ d + 1 → B + 256 * l.x2 < P + 256 * l.x1 → P' + 256 * l.y2 ≡ P + 256 * l.y1 → NW l d r P'
-    nw-left P' w d e o f g k = record {
+    nw_left : (P' w d : ℕ) → i.u ≡ w + 256 → 0 < w → c ≡ d + 1 → B + 256 * l.x2 < P + 256 * l.x1 → P' + 256 * l.y2 ≡ P + 256 * l.y1 → NW l d r P'
+    nw_left P' w d e o f g k = record {
       a = i.a;
       b = i.b;
       u = w;
@@ -118,8 +118,8 @@ module _ (l : Ends) (c r P : ℕ) where
       exact = omega (arith, mul-add i.b w 256, ap (λ (n : ℕ). i.b * n) e);
     }
 
-    nw-next : (P' w : ℕ) → i.v ≡ w + 256 → P + 256 * l.x1 ≤ B + 256 * l.x2 → P' + 256 * l.x2 ≡ P + 256 * l.x1 → NW l c (r + 1) P'
-    nw-next P' w e g k = record {
+    nw_next : (P' w : ℕ) → i.v ≡ w + 256 → P + 256 * l.x1 ≤ B + 256 * l.x2 → P' + 256 * l.x2 ≡ P + 256 * l.x1 → NW l c (r + 1) P'
+    nw_next P' w e g k = record {
       a = i.a;
       b = i.b;
       u = i.u;
@@ -133,18 +133,18 @@ module _ (l : Ends) (c r P : ℕ) where
 
   -- dx > 0, dy < 0
   module _ (i : SE l c r P) where
-    se-u : 1 < i.u / 256 + (i.v + 255) / 256 → B + 256 * l.y1 ≤ P + 256 * l.y2 → 256 ≤ i.u
-    se-u h g = ⊎_elim
+    se_u : 1 < i.u / 256 + (i.v + 255) / 256 → B + 256 * l.y1 ≤ P + 256 * l.y2 → 256 ≤ i.u
+    se_u h g = ⊎_elim
         (λ z. absurd (omega (arith, mul-le-mul_left {m = 257} {n = i.v} i.a (omega arith), mul-le-mul_left {m = i.u} {n = 255} i.b (omega arith))))
         (λ z. z) (which i.u 256)
 
-    se-v : 1 < i.u / 256 + (i.v + 255) / 256 → P + 256 * l.y2 < B + 256 * l.y1 → 256 < i.v
-    se-v h g = ⊎_elim (λ z. z)
+    se_v : 1 < i.u / 256 + (i.v + 255) / 256 → P + 256 * l.y2 < B + 256 * l.y1 → 256 < i.v
+    se_v h g = ⊎_elim (λ z. z)
         (λ z. absurd (omega (arith, mul-le-mul_left {m = i.v} {n = 256} i.a z, mul-le-mul_left {m = 256} {n = i.u} i.b (omega arith))))
         (which 256 i.v)
 
-    se-right : (P' w : ℕ) → i.u ≡ w + 256 → B + 256 * l.y1 ≤ P + 256 * l.y2 → P' + 256 * l.y1 ≡ P + 256 * l.y2 → SE l (c + 1) r P'
-    se-right P' w e g k = record {
+    se_right : (P' w : ℕ) → i.u ≡ w + 256 → B + 256 * l.y1 ≤ P + 256 * l.y2 → P' + 256 * l.y1 ≡ P + 256 * l.y2 → SE l (c + 1) r P'
+    se_right P' w e g k = record {
       a = i.a;
       b = i.b;
       u = w;
@@ -156,8 +156,8 @@ module _ (l : Ends) (c r P : ℕ) where
       exact = omega (arith, mul-add i.b w 256, ap (λ (n : ℕ). i.b * n) e);
     }
 
-    se-previous : (P' w d : ℕ) → i.v ≡ w + 256 → 0 < w → r ≡ d + 1 → P + 256 * l.y2 < B + 256 * l.y1 → P' + 256 * l.x1 ≡ P + 256 * l.x2 → SE l c d P'
-    se-previous P' w d e o f g k = record {
+    se_previous : (P' w d : ℕ) → i.v ≡ w + 256 → 0 < w → r ≡ d + 1 → P + 256 * l.y2 < B + 256 * l.y1 → P' + 256 * l.x1 ≡ P + 256 * l.x2 → SE l c d P'
+    se_previous P' w d e o f g k = record {
       a = i.a;
       b = i.b;
       u = i.u;
@@ -171,18 +171,18 @@ module _ (l : Ends) (c r P : ℕ) where
 
   -- dx < 0, dy < 0
   module _ (i : SW l c r P) where
-    sw-u : 2 < (i.u + 255) / 256 + (i.v + 255) / 256 → P ≤ B → 256 < i.u
-    sw-u h g = ⊎_elim (λ z. z)
+    sw_u : 2 < (i.u + 255) / 256 + (i.v + 255) / 256 → P ≤ B → 256 < i.u
+    sw_u h g = ⊎_elim (λ z. z)
         (λ z. absurd (omega (arith, mul-le-mul_left {m = 257} {n = i.v} i.a (omega arith), mul-le-mul_left {m = i.u} {n = 256} i.b z)))
         (which 256 i.u)
 
-    sw-v : 2 < (i.u + 255) / 256 + (i.v + 255) / 256 → B < P → 256 < i.v
-    sw-v h g = ⊎_elim (λ z. z)
+    sw_v : 2 < (i.u + 255) / 256 + (i.v + 255) / 256 → B < P → 256 < i.v
+    sw_v h g = ⊎_elim (λ z. z)
         (λ z. absurd (omega (arith, mul-le-mul_left {m = i.v} {n = 256} i.a z, mul-le-mul_left {m = 257} {n = i.u} i.b (omega arith))))
         (which 256 i.v)
 
-    sw-left : (P' w d : ℕ) → i.u ≡ w + 256 → 0 < w → c ≡ d + 1 → P ≤ B → P' + 256 * l.y2 ≡ P + 256 * l.y1 → SW l d r P'
-    sw-left P' w d e o f g k = record {
+    sw_left : (P' w d : ℕ) → i.u ≡ w + 256 → 0 < w → c ≡ d + 1 → P ≤ B → P' + 256 * l.y2 ≡ P + 256 * l.y1 → SW l d r P'
+    sw_left P' w d e o f g k = record {
       a = i.a;
       b = i.b;
       u = w;
@@ -194,8 +194,8 @@ module _ (l : Ends) (c r P : ℕ) where
       exact = omega (arith, mul-add i.b w 256, ap (λ (n : ℕ). i.b * n) e);
     }
 
-    sw-previous : (P' w d : ℕ) → i.v ≡ w + 256 → 0 < w → r ≡ d + 1 → B < P → P' + 256 * l.x1 ≡ P + 256 * l.x2 → SW l c d P'
-    sw-previous P' w d e o f g k = record {
+    sw_previous : (P' w d : ℕ) → i.v ≡ w + 256 → 0 < w → r ≡ d + 1 → B < P → P' + 256 * l.x1 ≡ P + 256 * l.x2 → SW l c d P'
+    sw_previous P' w d e o f g k = record {
       a = i.a;
       b = i.b;
       u = i.u;
@@ -245,22 +245,22 @@ bwd_pos : {z1 z2 c a u : ℕ} → Bwd z1 z2 c a u → 256 < u → 0 < c
 bwd_pos f h = omega arith
 
 module _ (l : Ends) (c r P : ℕ) (bd : Bounded l) where
-  ne-moved : NE l c r P → 0 < togo l c r → Moved l c r P (way l (P ⊖ B))
-  ne-moved i h =
+  ne_moved : NE l c r P → 0 < togo l c r → Moved l c r P (way l (P ⊖ B))
+  ne_moved i h =
       let k : 0 < i.u / 256 + i.v / 256 = rw (fwd_cells i.hx, fwd_cells i.hy) at h in
       ⊎_elim
       (λ g.
-      let e : i.v ≡ i.v - 256 + 256 = less _ 256 (ne-v l c r P i k g) in
-      rw (to-next l P (omega arith) g)
+      let e : i.v ≡ i.v - 256 + 256 = less _ 256 (ne_v l c r P i k g) in
+      rw (to_next l P (omega arith) g)
       (record {
         sign = omega arith;
         small = small_fwd (B + 256 * l.x2) (P + 256 * l.x1) i.hy (omega arith);
         nearer = nearer_y l c r (r + 1) (fwd_nearer i.hy (fwd_on i.hy e));
-        on = ne (ne-next l c r P i _ _ e g (sym (less (P + 256 * l.x1) (256 * l.x2) (omega arith))));
+        on = ne (ne_next l c r P i _ _ e g (sym (less (P + 256 * l.x1) (256 * l.x2) (omega arith))));
       }))
       (λ g.
-      let e : i.u ≡ i.u - 256 + 256 = less _ 256 (ne-u l c r P i k g) in
-      rw (to-right l P (omega arith) g (omega arith))
+      let e : i.u ≡ i.u - 256 + 256 = less _ 256 (ne_u l c r P i k g) in
+      rw (to_right l P (omega arith) g (omega arith))
       (record {
         sign = omega arith;
         small = small_fwd (P + 256 * l.y2) (B + 256 * l.y1) i.hx (omega arith);
@@ -269,104 +269,104 @@ module _ (l : Ends) (c r P : ℕ) (bd : Bounded l) where
       }))
       (which (S0 l c r P) (S1 l c r P))
 
-  nw-moved : NW l c r P → 0 < togo l c r → Moved l c r P (way l (P ⊖ B))
-  nw-moved i h =
+  nw_moved : NW l c r P → 0 < togo l c r → Moved l c r P (way l (P ⊖ B))
+  nw_moved i h =
       let k : 1 < (i.u + 255) / 256 + i.v / 256 = count (apart (l.x2 / 256) c) (apart (l.y2 / 256) r) h (bwd_cells i.hx) (fwd_cells i.hy) in
       ⊎_elim
       (λ g.
-      let n : 256 < i.u = nw-u l c r P i k g in
+      let n : 256 < i.u = nw_u l c r P i k g in
       let e : i.u ≡ i.u - 256 + 256 = less _ 256 (omega arith) in
       let o : 0 < i.u - 256 = omega arith in
       let z : 0 < c = bwd_pos i.hx n in
       let d : c ≡ c - 1 + 1 = less c 1 z in
-      rw (to-left l P i.low g) (
+      rw (to_left l P i.low g) (
         z,
         record {
           sign = omega arith;
           small = small_bwd B P i.hx (omega arith);
           nearer = nearer_x l c r (c - 1) (bwd_nearer z i.hx (bwd_on i.hx e o d));
-          on = nw (nw-left l c r P i _ _ _ e o d g (sym (less (P + 256 * l.y1) (256 * l.y2) (omega arith))));
+          on = nw (nw_left l c r P i _ _ _ e o d g (sym (less (P + 256 * l.y1) (256 * l.y2) (omega arith))));
         },
       ))
       (λ g.
-      let e : i.v ≡ i.v - 256 + 256 = less _ 256 (nw-v l c r P i k g) in
-      rw (to-next l P g (omega arith))
+      let e : i.v ≡ i.v - 256 + 256 = less _ 256 (nw_v l c r P i k g) in
+      rw (to_next l P g (omega arith))
       (record {
         sign = omega arith;
         small = small_fwd (B + 256 * l.x2) (P + 256 * l.x1) i.hy (omega arith);
         nearer = nearer_y l c r (r + 1) (fwd_nearer i.hy (fwd_on i.hy e));
-        on = nw (nw-next l c r P i _ _ e g (sym (less (P + 256 * l.x1) (256 * l.x2) (omega arith))));
+        on = nw (nw_next l c r P i _ _ e g (sym (less (P + 256 * l.x1) (256 * l.x2) (omega arith))));
       }))
       (which (B + 256 * l.x2) (P + 256 * l.x1))
     where
       count : (m n : ℕ) {x y : ℕ} → 0 < m + n → m + 1 ≡ x → n ≡ y → 1 < x + y
       count m n h e f = omega arith
 
-  se-moved : SE l c r P → 0 < togo l c r → Moved l c r P (way l (P ⊖ B))
-  se-moved i h =
+  se_moved : SE l c r P → 0 < togo l c r → Moved l c r P (way l (P ⊖ B))
+  se_moved i h =
       let k : 1 < i.u / 256 + (i.v + 255) / 256 = count (apart (l.x2 / 256) c) (apart (l.y2 / 256) r) h (fwd_cells i.hx) (bwd_cells i.hy) in
       ⊎_elim
       (λ g.
-      let n : 256 < i.v = se-v l c r P i k g in
+      let n : 256 < i.v = se_v l c r P i k g in
       let e : i.v ≡ i.v - 256 + 256 = less _ 256 (omega arith) in
       let o : 0 < i.v - 256 = omega arith in
       let z : 0 < r = bwd_pos i.hy n in
       let d : r ≡ r - 1 + 1 = less r 1 z in
-      rw (to-previous l P (omega arith) (omega arith) (λ _. g)) (
+      rw (to_previous l P (omega arith) (omega arith) (λ _. g)) (
         z,
         record {
           sign = omega arith;
           small = small_bwd P B i.hy (omega arith);
           nearer = nearer_y l c r (r - 1) (bwd_nearer z i.hy (bwd_on i.hy e o d));
-          on = se (se-previous l c r P i _ _ _ e o d g (sym (less (P + 256 * l.x2) (256 * l.x1) (omega arith))));
+          on = se (se_previous l c r P i _ _ _ e o d g (sym (less (P + 256 * l.x2) (256 * l.x1) (omega arith))));
         },
       ))
       (λ g.
-      let e : i.u ≡ i.u - 256 + 256 = less _ 256 (se-u l c r P i k g) in
-      rw (to-right l P (omega arith) (omega arith) g)
+      let e : i.u ≡ i.u - 256 + 256 = less _ 256 (se_u l c r P i k g) in
+      rw (to_right l P (omega arith) (omega arith) g)
       (record {
         sign = omega arith;
         small = small_fwd (P + 256 * l.y2) (B + 256 * l.y1) i.hx (omega arith);
         nearer = nearer_x l c r (c + 1) (fwd_nearer i.hx (fwd_on i.hx e));
-        on = se (se-right l c r P i _ _ e g (sym (less (P + 256 * l.y2) (256 * l.y1) (omega arith))));
+        on = se (se_right l c r P i _ _ e g (sym (less (P + 256 * l.y2) (256 * l.y1) (omega arith))));
       }))
       (which (P + 256 * l.y2) (B + 256 * l.y1))
     where
       count : (m n : ℕ) {x y : ℕ} → 0 < m + n → m ≡ x → n + 1 ≡ y → 1 < x + y
       count m n h e f = omega arith
 
-  sw-moved : SW l c r P → 0 < togo l c r → Moved l c r P (way l (P ⊖ B))
-  sw-moved i h =
+  sw_moved : SW l c r P → 0 < togo l c r → Moved l c r P (way l (P ⊖ B))
+  sw_moved i h =
       let k : 2 < (i.u + 255) / 256 + (i.v + 255) / 256 = count (apart (l.x2 / 256) c) (apart (l.y2 / 256) r) h (bwd_cells i.hx) (bwd_cells i.hy) in
       ⊎_elim
       (λ g.
-      let n : 256 < i.v = sw-v l c r P i k g in
+      let n : 256 < i.v = sw_v l c r P i k g in
       let e : i.v ≡ i.v - 256 + 256 = less _ 256 (omega arith) in
       let o : 0 < i.v - 256 = omega arith in
       let z : 0 < r = bwd_pos i.hy n in
       let d : r ≡ r - 1 + 1 = less r 1 z in
-      rw (to-previous l P (omega arith) (omega arith) (omega arith)) (
+      rw (to_previous l P (omega arith) (omega arith) (omega arith)) (
         z,
         record {
           sign = omega arith;
           small = small_bwd P B i.hy (omega arith);
           nearer = nearer_y l c r (r - 1) (bwd_nearer z i.hy (bwd_on i.hy e o d));
-          on = sw (sw-previous l c r P i _ _ _ e o d g (sym (less (P + 256 * l.x2) (256 * l.x1) (omega arith))));
+          on = sw (sw_previous l c r P i _ _ _ e o d g (sym (less (P + 256 * l.x2) (256 * l.x1) (omega arith))));
         },
       ))
       (λ g.
-      let n : 256 < i.u = sw-u l c r P i k g in
+      let n : 256 < i.u = sw_u l c r P i k g in
       let e : i.u ≡ i.u - 256 + 256 = less _ 256 (omega arith) in
       let o : 0 < i.u - 256 = omega arith in
       let z : 0 < c = bwd_pos i.hx n in
       let d : c ≡ c - 1 + 1 = less c 1 z in
-      rw (to-left l P g (omega arith)) (
+      rw (to_left l P g (omega arith)) (
         z,
         record {
           sign = omega arith;
           small = small_bwd B P i.hx (omega arith);
           nearer = nearer_x l c r (c - 1) (bwd_nearer z i.hx (bwd_on i.hx e o d));
-          on = sw (sw-left l c r P i _ _ _ e o d g (sym (less (P + 256 * l.y1) (256 * l.y2) (omega arith))));
+          on = sw (sw_left l c r P i _ _ _ e o d g (sym (less (P + 256 * l.y1) (256 * l.y2) (omega arith))));
         },
       ))
       (which B P)
@@ -376,10 +376,10 @@ module _ (l : Ends) (c r P : ℕ) (bd : Bounded l) where
 
   -- THE LAW: from any cell of the course but the end cell the line goes on, to a cell of the course that is one nearer
   pub moved : Course l c r P → 0 < togo l c r → Moved l c r P (way l (P ⊖ B))
-  moved (ne i) h = ne-moved i h
-  moved (nw i) h = nw-moved i h
-  moved (se i) h = se-moved i h
-  moved (sw i) h = sw-moved i h
+  moved (ne i) h = ne_moved i h
+  moved (nw i) h = nw_moved i h
+  moved (se i) h = se_moved i h
+  moved (sw i) h = sw_moved i h
 
   -- p + 2^40 is far from both ends of a 64-bit word
   pub near : Course l c r P → Near P

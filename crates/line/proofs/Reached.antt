@@ -19,7 +19,7 @@ use Rattle.line.specs.Lines.{sides}
 use Rattle.line.specs.Course.{B, Bounded, Slanted, Course, ne, nw, se, sw, Level, beside, rows_to, togo, Rated, Under, Stepped}
 use Rattle.line.specs.Trail.{Boxed, cuts, UpTo, ended, also}
 use Rattle.line.proofs.Course.{Moved, moved}
-use Rattle.line.proofs.Turning.{stepped-left, stepped-next, stepped-right, stepped-previous}
+use Rattle.line.proofs.Turning.{stepped_left, stepped_next, stepped_right, stepped_previous}
 use Rattle.line.proofs.Cases.{sides_vertical}
 use Rattle.line.proofs.Begun.{begun_line, mul_low}
 use Rattle.line.proofs.Walking.{row_way, upright_suc, row_nearer, row_level, row_start, crossed_suc}
@@ -43,10 +43,10 @@ stepped : (l : Ends) (k : Rates) (P : ℕ) (a : At) → Rated l k → Under l P 
 stepped l k P a y u h = go (way l (P ⊖ B)) refl (moved l a.col a.row P y.small u.course h)
   where
     go : (w : Side) → way l (P ⊖ B) ≡ w → Moved l a.col a.row P w → (r : Turn) × Stepped l P a r
-    go Left e m = (_, stepped-left l k P a y u e m _ refl)
-    go Next e m = (_, stepped-next l k P a y u e m _ refl)
-    go Right e m = (_, stepped-right l k P a y u e m _ refl)
-    go Previous e m = (_, stepped-previous l k P a y u e m _ refl)
+    go Left e m = (_, stepped_left l k P a y u e m _ refl)
+    go Next e m = (_, stepped_next l k P a y u e m _ refl)
+    go Right e m = (_, stepped_right l k P a y u e m _ refl)
+    go Previous e m = (_, stepped_previous l k P a y u e m _ refl)
 
 -- a crossing is at most 255
 pub cut_most : (l : Ends) (P : ℕ) (a : At) → Bounded l → Under l P a → 0 < togo l a.col a.row → cut l (way l (P ⊖ B)) (P ⊖ B) ≤ 255
@@ -93,9 +93,9 @@ module _ (l : Ends) (b : Bounded l) (n : Slanted l) where
   begun : ℕ
   begun = B + l.y1 % 256 * l.x2 + l.x1 % 256 * l.y1 - l.y1 % 256 * l.x1 - l.x1 % 256 * l.y2
 
-  on-way : Under l begun (start l) × (begun ⊖ B ≡ p l (start l))
+  on_way : Under l begun (start l) × (begun ⊖ B ≡ p l (start l))
   unfolding begun
-  on-way =
+  on_way =
       begun_line l begun b n
       (omega (
         arith,
@@ -103,11 +103,11 @@ module _ (l : Ends) (b : Bounded l) (n : Slanted l) where
         mul_low (l.x1 % 256) l.y2 (omega arith) b.by2,
       ))
 
-  pub slanted-trail : Trail l (sides l) (cell l.x1) (cell l.y1) (crossed (sides l) l (p l (start l)) (start l))
-  slanted-trail = rw on-way.1 at (crossed_trail (sides l) l (rates l) begun (start l) (rated l b) on-way.0 refl)
+  pub slanted_trail : Trail l (sides l) (cell l.x1) (cell l.y1) (crossed (sides l) l (p l (start l)) (start l))
+  slanted_trail = rw on_way.1 at (crossed_trail (sides l) l (rates l) begun (start l) (rated l b) on_way.0 refl)
 
-  pub slanted-cuts : UpTo 255 (cuts (sides l) l (p l (start l)))
-  slanted-cuts = rw on-way.1 at (cuts_most (sides l) l (rates l) begun (start l) (rated l b) on-way.0 refl)
+  pub slanted_cuts : UpTo 255 (cuts (sides l) l (p l (start l)))
+  slanted_cuts = rw on_way.1 at (cuts_most (sides l) l (rates l) begun (start l) (rated l b) on_way.0 refl)
 
 -- ---- vertical lines
 row_boxed : (l : Ends) (next : Bool) (a : At) → Boxed l a.col a.row → Level l next a.row → (a.row ≡ cell l.y2 → ⊥) → Boxed l (beside a next).col (beside a next).row

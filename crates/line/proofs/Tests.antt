@@ -19,8 +19,8 @@ module _ (a b c d : ℕ) where
   pub no_le : (a ≤ b → d < c) → (leb a b && leb c d) ≡ false
   no_le f = ⊎_elim (λ h. rw (lt-leb a b h)) (λ h. rw (lt-leb c d (f h), and-false (leb a b))) (which b a)
 
-  pub no-lts : (a < b → d ≤ c) → (ltb a b && ltb c d) ≡ false
-  no-lts f = ⊎_elim (λ h. rw (le-ltb c d (f h), and-false (ltb a b))) (λ h. rw (le-ltb a b h)) (which a b)
+  pub no_lts : (a < b → d ≤ c) → (ltb a b && ltb c d) ≡ false
+  no_lts f = ⊎_elim (λ h. rw (le-ltb c d (f h), and-false (ltb a b))) (λ h. rw (le-ltb a b h)) (which a b)
 
   pub no_eq : (a ≡ b → c ≡ d → ⊥) → (eqb a b && eqb c d) ≡ false
   no_eq f = go (eqb a b) refl
@@ -35,8 +35,8 @@ module _ (a b c d : ℕ) where
   pub yes_le : a ≤ b → c ≤ d → (leb a b && leb c d) ≡ true
   yes_le f g = rw (le-leb a b f, le-leb c d g)
 
-  pub yes-lts : a < b → c < d → (ltb a b && ltb c d) ≡ true
-  yes-lts f g = rw (lt-ltb a b f, lt-ltb c d g)
+  pub yes_lts : a < b → c < d → (ltb a b && ltb c d) ≡ true
+  yes_lts f g = rw (lt-ltb a b f, lt-ltb c d g)
 
-  pub yes-eq : a ≡ b → c ≡ d → (eqb a b && eqb c d) ≡ true
-  yes-eq f g = rw (eq-eqb a b f, eq-eqb c d g)
+  pub yes_eq : a ≡ b → c ≡ d → (eqb a b && eqb c d) ≡ true
+  yes_eq f g = rw (eq-eqb a b f, eq-eqb c d g)

@@ -47,17 +47,17 @@ less_p P z1 z2 n h k = ⊖_same (P + 256 * z1 - 256 * z2) B (P + 256 * z1) (B + 
 
 -- what a course says of p + 256 times the way from z1 to z2, where it is the way on
 module _ (P z1 z2 n : ℕ) where
-  pub next-below : n ≡ P + 256 * z1 - 256 * z2 → P + 256 * z1 ≤ B + 256 * z2 → n ≤ B
-  next-below e h = omega arith
+  pub next_below : n ≡ P + 256 * z1 - 256 * z2 → P + 256 * z1 ≤ B + 256 * z2 → n ≤ B
+  next_below e h = omega arith
 
-  pub right-above : n ≡ P + 256 * z2 - 256 * z1 → B + 256 * z1 ≤ P + 256 * z2 → B ≤ n
-  right-above e h = omega arith
+  pub right_above : n ≡ P + 256 * z2 - 256 * z1 → B + 256 * z1 ≤ P + 256 * z2 → B ≤ n
+  right_above e h = omega arith
 
   pub next_small : (d : ℕ) → n ≡ P + 256 * z1 - 256 * z2 → B + 256 * z2 ≤ P + 256 * z1 + d → B ≤ n + d
   next_small d e h = omega arith
 
-  pub right-small : (d : ℕ) → n ≡ P + 256 * z2 - 256 * z1 → P + 256 * z2 ≤ B + 256 * z1 + d → n ≤ B + d
-  right-small d e h = omega arith
+  pub right_small : (d : ℕ) → n ≡ P + 256 * z2 - 256 * z1 → P + 256 * z2 ≤ B + 256 * z1 + d → n ≤ B + d
+  right_small d e h = omega arith
 
 turn_down : (P z1 z2 : ℕ) → Near P → z1 < 2 ^ 22 → z2 < 2 ^ 22 → B - (P + 256 * z1 - 256 * z2) ≡ B + 256 * z2 - (P + 256 * z1)
 turn_down P z1 z2 n h k = omega arith
@@ -97,9 +97,9 @@ over_same : (w : Side) (a : At) (go : ℤ → At → List Mark) {z z' : ℕ} {p 
 over_same w a go {z} {z'} {p} {p'} e f = ap (λ (n : ℕ). over w n a (go p)) e ∙ ap (λ (m : ℤ). over w z' a (go m)) f
 
 module _ (l : Ends) (k : Rates) (P : ℕ) (a : At) (rated : Rated l k) (under : Under l P a) where
-  pub stepped-left : way l (P ⊖ B) ≡ Left → Moved l a.col a.row P Left → (y : ℕ) → y ≡ (B - P) * k.x / 2 ^ 24 →
+  pub stepped_left : way l (P ⊖ B) ≡ Left → Moved l a.col a.row P Left → (y : ℕ) → y ≡ (B - P) * k.x / 2 ^ 24 →
       Stepped l P a (record { fx = 0; fy = y; to = record { col = a.col - 1; row = a.row; fx = 256; fy = y }; p = P + 256 * l.y1 - 256 * l.y2 })
-  stepped-left e m y f =
+  stepped_left e m y f =
       let s : y ≤ 255 = cross_small B P _ _ y m.1.small rated.kx f in
       let g : y ≡ crossing (P ⊖ B) (dx l) = cross_down B P _ _ _ y m.1.sign rated.kx f in
       record {
@@ -112,9 +112,9 @@ module _ (l : Ends) (k : Rates) (P : ℕ) (a : At) (rated : Rated l k) (under : 
         nearer = m.1.nearer;
       }
 
-  pub stepped-next : way l (P ⊖ B) ≡ Next → Moved l a.col a.row P Next → (x : ℕ) → x ≡ (B - (P + 256 * l.x1 - 256 * l.x2)) * k.y / 2 ^ 24 →
+  pub stepped_next : way l (P ⊖ B) ≡ Next → Moved l a.col a.row P Next → (x : ℕ) → x ≡ (B - (P + 256 * l.x1 - 256 * l.x2)) * k.y / 2 ^ 24 →
       Stepped l P a (record { fx = x; fy = 256; to = record { col = a.col; row = a.row + 1; fx = x; fy = 0 }; p = P + 256 * l.x1 - 256 * l.x2 })
-  stepped-next e m x f₁ =
+  stepped_next e m x f₁ =
       let f : x ≡ (B + 256 * l.x2 - (P + 256 * l.x1)) * k.y / 2 ^ 24 = f₁ ∙ ap (λ (n : ℕ). n * k.y / 2 ^ 24) (turn_down P l.x1 l.x2 under.close rated.small.bx1 rated.small.bx2) in
       let s : x ≤ 255 = cross_small (B + 256 * l.x2) (P + 256 * l.x1) _ _ x m.small rated.ky f in
       let g : x ≡ crossing (q l (P ⊖ B)) (dy l) = rw (q_is l P) (cross_down (B + 256 * l.x2) (P + 256 * l.x1) _ _ _ x m.sign rated.ky f) in
@@ -128,9 +128,9 @@ module _ (l : Ends) (k : Rates) (P : ℕ) (a : At) (rated : Rated l k) (under : 
         nearer = m.nearer;
       }
 
-  pub stepped-right : way l (P ⊖ B) ≡ Right → Moved l a.col a.row P Right → (y : ℕ) → y ≡ (P + 256 * l.y2 - 256 * l.y1 - B) * k.x / 2 ^ 24 →
+  pub stepped_right : way l (P ⊖ B) ≡ Right → Moved l a.col a.row P Right → (y : ℕ) → y ≡ (P + 256 * l.y2 - 256 * l.y1 - B) * k.x / 2 ^ 24 →
       Stepped l P a (record { fx = 256; fy = y; to = record { col = a.col + 1; row = a.row; fx = 0; fy = y }; p = P + 256 * l.y2 - 256 * l.y1 })
-  stepped-right e m y f₁ =
+  stepped_right e m y f₁ =
       let f : y ≡ (P + 256 * l.y2 - (B + 256 * l.y1)) * k.x / 2 ^ 24 = f₁ ∙ ap (λ (n : ℕ). n * k.x / 2 ^ 24) (turn_up P l.y1 l.y2) in
       let s : y ≤ 255 = cross_small (P + 256 * l.y2) (B + 256 * l.y1) _ _ y m.small rated.kx f in
       let g : y ≡ crossing (t l (P ⊖ B)) (dx l) = rw (t_is l P) (cross_up (P + 256 * l.y2) (B + 256 * l.y1) _ _ _ y m.sign rated.kx f) in
@@ -144,9 +144,9 @@ module _ (l : Ends) (k : Rates) (P : ℕ) (a : At) (rated : Rated l k) (under : 
         nearer = m.nearer;
       }
 
-  pub stepped-previous : way l (P ⊖ B) ≡ Previous → Moved l a.col a.row P Previous → (x : ℕ) → x ≡ (P - B) * k.y / 2 ^ 24 →
+  pub stepped_previous : way l (P ⊖ B) ≡ Previous → Moved l a.col a.row P Previous → (x : ℕ) → x ≡ (P - B) * k.y / 2 ^ 24 →
       Stepped l P a (record { fx = x; fy = 0; to = record { col = a.col; row = a.row - 1; fx = x; fy = 256 }; p = P + 256 * l.x2 - 256 * l.x1 })
-  stepped-previous e m x f =
+  stepped_previous e m x f =
       let s : x ≤ 255 = cross_small P B _ _ x m.1.small rated.ky f in
       let g : x ≡ crossing (P ⊖ B) (dy l) = cross_up P B _ _ _ x m.1.sign rated.ky f in
       record {

@@ -14,7 +14,7 @@ use Rattle.pen.specs.Laws.{seen_append}
 use Rattle.line.specs.Range.{Reach}
 use Rattle.line.specs.Lines.{ends, line_all, skips}
 use Rattle.line.specs.Trail.{StandsIn, Enters, none, gives, enters, Outside}
-use Rattle.line.proofs.Whole.{line-outside, line_skipped}
+use Rattle.line.proofs.Whole.{line_outside, line_skipped}
 
 module _ (f : Frame) where
   -- the pen is in no cell of the band
@@ -22,40 +22,40 @@ module _ (f : Frame) where
   StandsOutside nowhere = Unit {0}
   StandsOutside (at c r v a) = Outside f c r
 
-  pub stands-outside : (s : Stand) (c r : ℕ) → StandsIn s c r → Outside f c r → StandsOutside s
-  stands-outside (at c' r' v a) c r h o = rw h.1 o
-  stands-outside nowhere c r h o = absurd h
+  pub stands_outside : (s : Stand) (c r : ℕ) → StandsIn s c r → Outside f c r → StandsOutside s
+  stands_outside (at c' r' v a) c r h o = rw h.1 o
+  stands_outside nowhere c r h o = absurd h
 
-  pub gave-outside : (s : Stand) (v a : ℕ) → StandsOutside s → StandsOutside (gave s v a)
-  gave-outside (at c r v' a') v a o = o
-  gave-outside nowhere v a o = o
+  pub gave_outside : (s : Stand) (v a : ℕ) → StandsOutside s → StandsOutside (gave s v a)
+  gave_outside (at c r v' a') v a o = o
+  gave_outside nowhere v a o = o
 
-  pub not-inside : (c r v a : ℕ) → Outside f c r → inside f (pair_of c r v a) ≡ false
-  not-inside c r v a (inl h) = rw (le-ltb r f.end h) (and-false (ltb c f.wide && leb f.first r))
-  not-inside c r v a (inr h) = rw (lt-leb f.first r h, and-false (ltb c f.wide))
+  pub not_inside : (c r v a : ℕ) → Outside f c r → inside f (pair_of c r v a) ≡ false
+  not_inside c r v a (inl h) = rw (le-ltb r f.end h) (and-false (ltb c f.wide && leb f.first r))
+  not_inside c r v a (inr h) = rw (lt-leb f.first r h, and-false (ltb c f.wide))
 
-  pub leaving-unseen : (s : Stand) → StandsOutside s → seen f (leaving s) ≡ []
+  pub leaving_unseen : (s : Stand) → StandsOutside s → seen f (leaving s) ≡ []
   unfolding seen
-  leaving-unseen nowhere o = refl
-  leaving-unseen (at c r v a) o = go (not (eqb v 0 && eqb a 0))
+  leaving_unseen nowhere o = refl
+  leaving_unseen (at c r v a) o = go (not (eqb v 0 && eqb a 0))
     where
       go : (t : Bool) → seen f (when t (pair_of c r v a) []) ≡ []
-      go true = rw (not-inside c r v a o)
+      go true = rw (not_inside c r v a o)
       go false = refl
 
   -- nothing of such marks is seen, and the pen stays outside
-  pub unseen-left : {ms : List Mark} → Enters (Outside f) ms → (s : Stand) → StandsOutside s → seen f (left s ms) ≡ []
+  pub unseen_left : {ms : List Mark} → Enters (Outside f) ms → (s : Stand) → StandsOutside s → seen f (left s ms) ≡ []
   unfolding left seen
-  unseen-left none s o = refl
-  unseen-left (gives {v} {a} e) s o = unseen-left e (gave s v a) (gave-outside s v a o)
-  unseen-left (enters {c} {r} h e) s o = seen_append f (leaving s) _ ∙ rw (leaving-unseen s o) (unseen-left e (at c r 0 0) h)
+  unseen_left none s o = refl
+  unseen_left (gives {v} {a} e) s o = unseen_left e (gave s v a) (gave_outside s v a o)
+  unseen_left (enters {c} {r} h e) s o = seen_append f (leaving s) _ ∙ rw (leaving_unseen s o) (unseen_left e (at c r 0 0) h)
 
-  pub unseen-after : {ms : List Mark} → Enters (Outside f) ms → (s : Stand) → StandsOutside s → StandsOutside (after s ms)
+  pub unseen_after : {ms : List Mark} → Enters (Outside f) ms → (s : Stand) → StandsOutside s → StandsOutside (after s ms)
   unfolding after
-  unseen-after none s o = o
-  unseen-after (gives {v} {a} e) s o = unseen-after e (gave s v a) (gave-outside s v a o)
-  unseen-after (enters {c} {r} h e) s o = unseen-after e (at c r 0 0) h
+  unseen_after none s o = o
+  unseen_after (gives {v} {a} e) s o = unseen_after e (gave s v a) (gave_outside s v a o)
+  unseen_after (enters {c} {r} h e) s o = unseen_after e (at c r 0 0) h
 
   -- a skipped line, drawn by a pen in its start cell, would leave the band nothing
-  pub line-unseen : (a b : FixedPoint) → Reach a → Reach b → skips f (ends a b) ≡ true → (s : Stand) → StandsIn s (cell a.x) (cell a.y) → seen f (left s (line_all a b)) ≡ []
-  line-unseen a b ra rb e s h = unseen-left (line_skipped a b ra rb f e) s (stands-outside s (cell a.x) (cell a.y) h (line-outside a b ra rb f e))
+  pub line_unseen : (a b : FixedPoint) → Reach a → Reach b → skips f (ends a b) ≡ true → (s : Stand) → StandsIn s (cell a.x) (cell a.y) → seen f (left s (line_all a b)) ≡ []
+  line_unseen a b ra rb e s h = unseen_left (line_skipped a b ra rb f e) s (stands_outside s (cell a.x) (cell a.y) h (line_outside a b ra rb f e))

@@ -13,39 +13,39 @@ use Rattle.line.specs.Course.{B}
 use Rattle.line.proofs.Tests.{no_lt, no_le, yes_lt, yes_le}
 
 module _ (l : Ends) (P : ℕ) where
-  pub way-is : way l (P ⊖ B) ≡
+  pub way_is : way l (P ⊖ B) ≡
       cond (leb P B && ltb (B + 256 * l.x2) (P + 256 * l.x1)) Left
       (cond (leb (P + 256 * l.x1) (B + 256 * l.x2) && ltb (B + 256 * l.x2 + 256 * l.y1) (P + 256 * l.x1 + 256 * l.y2)) Next
       (cond (leb (P + 256 * l.x1 + 256 * l.y2) (B + 256 * l.x2 + 256 * l.y1) && leb (B + 256 * l.y1) (P + 256 * l.y2)) Right
       Previous))
   unfolding way
-  way-is = simp (⊖_mul, ⊖_neg, ⊖_add, ⊖_le, ⊖_gt, ⊖_ge)
+  way_is = simp (⊖_mul, ⊖_neg, ⊖_add, ⊖_le, ⊖_gt, ⊖_ge)
 
-  pub to-left : P ≤ B → B + 256 * l.x2 < P + 256 * l.x1 → way l (P ⊖ B) ≡ Left
-  to-left h k = rw (way-is, yes_lt P B (B + 256 * l.x2) (P + 256 * l.x1) h k)
+  pub to_left : P ≤ B → B + 256 * l.x2 < P + 256 * l.x1 → way l (P ⊖ B) ≡ Left
+  to_left h k = rw (way_is, yes_lt P B (B + 256 * l.x2) (P + 256 * l.x1) h k)
 
-  pub to-next : P + 256 * l.x1 ≤ B + 256 * l.x2 → B + 256 * l.x2 + 256 * l.y1 < P + 256 * l.x1 + 256 * l.y2 → way l (P ⊖ B) ≡ Next
-  to-next h k = rw (
-    way-is,
+  pub to_next : P + 256 * l.x1 ≤ B + 256 * l.x2 → B + 256 * l.x2 + 256 * l.y1 < P + 256 * l.x1 + 256 * l.y2 → way l (P ⊖ B) ≡ Next
+  to_next h k = rw (
+    way_is,
     no_lt P B (B + 256 * l.x2) (P + 256 * l.x1) (omega arith),
     yes_lt (P + 256 * l.x1) (B + 256 * l.x2) (B + 256 * l.x2 + 256 * l.y1) (P + 256 * l.x1 + 256 * l.y2) h k,
   )
 
-  pub to-right : (P ≤ B → P + 256 * l.x1 ≤ B + 256 * l.x2) → P + 256 * l.x1 + 256 * l.y2 ≤ B + 256 * l.x2 + 256 * l.y1 → B + 256 * l.y1 ≤ P + 256 * l.y2 → way l (P ⊖ B) ≡ Right
-  to-right f h k = rw (
-    way-is,
+  pub to_right : (P ≤ B → P + 256 * l.x1 ≤ B + 256 * l.x2) → P + 256 * l.x1 + 256 * l.y2 ≤ B + 256 * l.x2 + 256 * l.y1 → B + 256 * l.y1 ≤ P + 256 * l.y2 → way l (P ⊖ B) ≡ Right
+  to_right f h k = rw (
+    way_is,
     no_lt P B (B + 256 * l.x2) (P + 256 * l.x1) f,
     no_lt (P + 256 * l.x1) (B + 256 * l.x2) (B + 256 * l.x2 + 256 * l.y1) (P + 256 * l.x1 + 256 * l.y2) (omega arith),
     yes_le (P + 256 * l.x1 + 256 * l.y2) (B + 256 * l.x2 + 256 * l.y1) (B + 256 * l.y1) (P + 256 * l.y2) h k,
   )
 
-  pub to-previous :
+  pub to_previous :
       (P ≤ B → P + 256 * l.x1 ≤ B + 256 * l.x2) →
       (P + 256 * l.x1 ≤ B + 256 * l.x2 → P + 256 * l.x1 + 256 * l.y2 ≤ B + 256 * l.x2 + 256 * l.y1) →
       (P + 256 * l.x1 + 256 * l.y2 ≤ B + 256 * l.x2 + 256 * l.y1 → P + 256 * l.y2 < B + 256 * l.y1) →
       way l (P ⊖ B) ≡ Previous
-  to-previous f g h = rw (
-    way-is,
+  to_previous f g h = rw (
+    way_is,
     no_lt P B (B + 256 * l.x2) (P + 256 * l.x1) f,
     no_lt (P + 256 * l.x1) (B + 256 * l.x2) (B + 256 * l.x2 + 256 * l.y1) (P + 256 * l.x1 + 256 * l.y2) g,
     no_le (P + 256 * l.x1 + 256 * l.y2) (B + 256 * l.x2 + 256 * l.y1) (B + 256 * l.y1) (P + 256 * l.y2) h,

@@ -21,9 +21,9 @@ use Rattle.line.specs.Lines.{ends, sides, marks_of, line_all, skips, line_marks}
 use Rattle.line.specs.Course.{Bounded}
 use Rattle.line.specs.Trail.{StandsIn, Enters, none, gives, enters, moves, Boxed, Outside}
 use Rattle.line.specs.Trail.{cuts, crossings, UpTo, ended, also}
-use Rattle.line.proofs.Cases.{skips-which, marks-skipped, marks-kept, line_is, marks-within, marks-level, marks-vertical, marks-slanted, reach_bounded}
+use Rattle.line.proofs.Cases.{skips_which, marks_skipped, marks_kept, line_is, marks_within, marks_level, marks_vertical, marks_slanted, reach_bounded}
 use Rattle.line.proofs.Trail.{Trail, there, trail_ends, trail_enters, trail_boxed, trail_moves}
-use Rattle.line.proofs.Reached.{slanted-trail, slanted-cuts, vertical_trail}
+use Rattle.line.proofs.Reached.{slanted_trail, slanted_cuts, vertical_trail}
 
 -- the two end cells are not the same
 abbrev pub Leaves : Ends → Type 0
@@ -50,7 +50,7 @@ some_sides l n e = n (omega arith) (omega arith)
 shape : (l : Ends) → Bounded l → Shape l (marks_of l)
 shape l b = ⊎_elim
     (λ x. ⊎_elim
-    (λ y. trail (rw (marks-within l x y, no_sides l x y) (there x y)))
+    (λ y. trail (rw (marks_within l x y, no_sides l x y) (there x y)))
     (λ y. leaves (λ _. y))
     (equal (cell l.y1) (cell l.y2)))
     (λ x. leaves (λ e _. x e))
@@ -58,10 +58,10 @@ shape l b = ⊎_elim
   where
     leaves : Leaves l → Shape l (marks_of l)
     leaves o = ⊎_elim
-        (λ y. level y o (marks-level l o y))
+        (λ y. level y o (marks_level l o y))
         (λ y. ⊎_elim
-        (λ x. trail (rw (marks-vertical l o y x) (vertical_trail l x)))
-        (λ x. trail (rw (marks-slanted l o y x) (slanted-trail l b (record { wide = x; high = y }))))
+        (λ x. trail (rw (marks_vertical l o y x) (vertical_trail l x)))
+        (λ x. trail (rw (marks_slanted l o y x) (slanted_trail l b (record { wide = x; high = y }))))
         (equal l.x1 l.x2))
         (equal l.y1 l.y2)
 
@@ -104,45 +104,45 @@ at_most l b = go (eqb l.y1 l.y2) (eqb l.x1 l.x2) refl refl
         → UpTo 255 (cond s [] (cond t (replicate (sides l) (fraction l.x1)) (cuts (sides l) l (p l (start l)))))
     go true t e f = ended
     go false true e f = all_alike 255 (sides l) (fraction l.x1) (omega arith)
-    go false false e f = slanted-cuts l b (record { wide = eqb-false _ _ f; high = eqb-false _ _ e })
+    go false false e f = slanted_cuts l b (record { wide = eqb-false _ _ f; high = eqb-false _ _ e })
 
 module _ (a b : FixedPoint) (ra : Reach a) (rb : Reach b) where
-  of-line : Shape (ends a b) (line_all a b)
-  of-line = shape (ends a b) (reach_bounded ra rb)
+  of_line : Shape (ends a b) (line_all a b)
+  of_line = shape (ends a b) (reach_bounded ra rb)
 
   -- a pen that was in the start cell is in the end cell
-  pub line-ends : (s : Stand) → StandsIn s (cell a.x) (cell a.y) → StandsIn (after s (line_all a b)) (cell b.x) (cell b.y)
-  line-ends = ends_in (ends a b) of-line
+  pub line_ends : (s : Stand) → StandsIn s (cell a.x) (cell a.y) → StandsIn (after s (line_all a b)) (cell b.x) (cell b.y)
+  line_ends = ends_in (ends a b) of_line
 
   -- and so is any pen, where the two cells are not the same
-  pub line-enters : Leaves (ends a b) → (s : Stand) → StandsIn (after s (line_all a b)) (cell b.x) (cell b.y)
-  line-enters = enters_end (ends a b) of-line
+  pub line_enters : Leaves (ends a b) → (s : Stand) → StandsIn (after s (line_all a b)) (cell b.x) (cell b.y)
+  line_enters = enters_end (ends a b) of_line
 
   -- every cell that is entered is in the box of the two
-  pub line-boxed : Enters (Boxed (ends a b)) (line_all a b)
-  line-boxed = in_box (ends a b) of-line
+  pub line_boxed : Enters (Boxed (ends a b)) (line_all a b)
+  line_boxed = in_box (ends a b) of_line
 
   -- a line that is not level takes |Δcolumn| + |Δrow| moves
-  pub line-moves : (a.y ≡ b.y → ⊥) → moves (line_all a b) ≡ sides (ends a b)
-  line-moves = moves_are (ends a b) of-line
+  pub line_moves : (a.y ≡ b.y → ⊥) → moves (line_all a b) ≡ sides (ends a b)
+  line_moves = moves_are (ends a b) of_line
 
   -- each crossing lies from 0 to 255 along its side
-  pub line-crossings : UpTo 255 (crossings (ends a b))
-  line-crossings = at_most (ends a b) (reach_bounded ra rb)
+  pub line_crossings : UpTo 255 (crossings (ends a b))
+  line_crossings = at_most (ends a b) (reach_bounded ra rb)
 
   -- a skipped line has no marks, and any other all of them
-  pub line-none : (f : Frame) → skips f (ends a b) ≡ true → line_marks f a b ≡ []
-  line-none f e = line_is f a b ∙ marks-skipped f (ends a b) e
+  pub line_none : (f : Frame) → skips f (ends a b) ≡ true → line_marks f a b ≡ []
+  line_none f e = line_is f a b ∙ marks_skipped f (ends a b) e
 
-  pub line-whole : (f : Frame) → skips f (ends a b) ≡ false → line_marks f a b ≡ line_all a b
-  line-whole f e = line_is f a b ∙ marks-kept f (ends a b) e
+  pub line_whole : (f : Frame) → skips f (ends a b) ≡ false → line_marks f a b ≡ line_all a b
+  line_whole f e = line_is f a b ∙ marks_kept f (ends a b) e
 
   -- it begins outside the band, and would enter no cell of it
-  pub line-outside : (f : Frame) → skips f (ends a b) ≡ true → Outside f (cell a.x) (cell a.y)
-  line-outside f e = ⊎_elim (λ h. inl h.0) (λ h. inr h.0) (skips-which f (ends a b) e)
+  pub line_outside : (f : Frame) → skips f (ends a b) ≡ true → Outside f (cell a.x) (cell a.y)
+  line_outside f e = ⊎_elim (λ h. inl h.0) (λ h. inr h.0) (skips_which f (ends a b) e)
 
   pub line_skipped : (f : Frame) → skips f (ends a b) ≡ true → Enters (Outside f) (line_all a b)
   line_skipped f e = ⊎_elim
-      (λ h. enters_map (λ c r k. inl (let g = k.first in omega arith)) line-boxed)
-      (λ h. enters_map (λ c r k. inr (let g = k.last in omega arith)) line-boxed)
-      (skips-which f (ends a b) e)
+      (λ h. enters_map (λ c r k. inl (let g = k.first in omega arith)) line_boxed)
+      (λ h. enters_map (λ c r k. inr (let g = k.last in omega arith)) line_boxed)
+      (skips_which f (ends a b) e)

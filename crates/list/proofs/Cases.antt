@@ -20,32 +20,32 @@ module _ (s : List ℕ) (at : ℕ) where
   unfolding step_at
   ended h = simp (le-leb _ _ h)
 
-  pub header-cut : at < length s → length s < at + 4 → step.Refused Cut ≡ step_at s at
+  pub header_cut : at < length s → length s < at + 4 → step.Refused Cut ≡ step_at s at
   unfolding step_at
-  header-cut h g = simp (lt-leb _ _ h, lt-ltb _ _ g)
+  header_cut h g = simp (lt-leb _ _ h, lt-ltb _ _ g)
 
   module _ (n k : ℕ) where
     -- n and k are what the header says
-    pub header-whole : at + 4 ≤ length s → n ≡ le16 s at → k ≡ le16 s (at + 2) → record_of n k s at ≡ step_at s at
+    pub header_whole : at + 4 ≤ length s → n ≡ le16 s at → k ≡ le16 s (at + 2) → record_of n k s at ≡ step_at s at
     unfolding step_at
-    header-whole h p q = let g : at < length s = omega arith in simp (lt-leb _ _ g, le-ltb _ _ h) (rw (← p, ← q))
+    header_whole h p q = let g : at < length s = omega arith in simp (lt-leb _ _ g, le-ltb _ _ h) (rw (← p, ← q))
 
-    pub kind-low : k < 1 → step.Refused Kind ≡ record_of n k s at
+    pub kind_low : k < 1 → step.Refused Kind ≡ record_of n k s at
     unfolding record_of
-    kind-low h = simp (lt-ltb _ _ h)
+    kind_low h = simp (lt-ltb _ _ h)
 
-    pub kind-high : 1 ≤ k → 5 < k → step.Refused Kind ≡ record_of n k s at
+    pub kind_high : 1 ≤ k → 5 < k → step.Refused Kind ≡ record_of n k s at
     unfolding record_of
-    kind-high h g = simp (le-ltb _ _ h, lt-ltb _ _ g)
+    kind_high h g = simp (le-ltb _ _ h, lt-ltb _ _ g)
 
     module _ (h : 1 ≤ k) (g : k ≤ 5) where
-      pub length-wrong : (n ≡ length_of k → ⊥) → step.Refused Length ≡ record_of n k s at
+      pub length_wrong : (n ≡ length_of k → ⊥) → step.Refused Length ≡ record_of n k s at
       unfolding record_of
-      length-wrong e = simp (le-ltb _ _ h, le-ltb _ _ g, ne_eqb _ _ e)
+      length_wrong e = simp (le-ltb _ _ h, le-ltb _ _ g, ne_eqb _ _ e)
 
-      pub body-cut : n ≡ length_of k → length s < at + (n + 2) → step.Refused Cut ≡ record_of n k s at
+      pub body_cut : n ≡ length_of k → length s < at + (n + 2) → step.Refused Cut ≡ record_of n k s at
       unfolding record_of
-      body-cut e l = simp (le-ltb _ _ h, le-ltb _ _ g, eq-eqb _ _ e, lt-ltb _ _ l)
+      body_cut e l = simp (le-ltb _ _ h, le-ltb _ _ g, eq-eqb _ _ e, lt-ltb _ _ l)
 
       -- b is the command of the part behind the header
       pub whole : n ≡ length_of k → at + (n + 2) ≤ length s → (b : Command) → b ≡ body_of k (take (length s - (at + 4)) (drop (at + 4) s)) → step.Command b (at + (n + 2)) ≡ record_of n k s at

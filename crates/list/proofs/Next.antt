@@ -44,9 +44,9 @@ module _ (s : List ℕ) (at : ℕ) where
   Placed (step.Refused w) = at < length s
   Placed (step.Command c next) = Within s at next
 
-  record-placed : (n k : ℕ) → at < length s → Placed (record_of n k s at)
+  record_placed : (n k : ℕ) → at < length s → Placed (record_of n k s at)
   unfolding record_of
-  record-placed n k h =
+  record_placed n k h =
       pick (ltb k 1 || ltb 5 k) _ _ Placed (λ e. h)
       (λ e. pick (not (eqb n (length_of k))) _ _ Placed (λ e. h)
       (λ (a : not (eqb n (length_of k)) ≡ false). pick (ltb (length s) (at + (n + 2))) _ _ Placed (λ e. h)
@@ -61,22 +61,22 @@ module _ (s : List ℕ) (at : ℕ) where
       pick (leb (length s) at) _ _ Placed (λ (e : leb (length s) at ≡ true). leb-true _ _ e)
       (λ (e : leb (length s) at ≡ false).
       let h = leb-false _ _ e in
-      pick (ltb (length s) (at + 4)) _ _ Placed (λ e. h) (λ e. record-placed (le16 s at) (le16 s (at + 2)) h))
+      pick (ltb (length s) (at + 4)) _ _ Placed (λ e. h) (λ e. record_placed (le16 s at) (le16 s (at + 2)) h))
 
   -- at or past the list's end there is the end, and the end is nowhere else
-  pub at-end : length s ≤ at → step_at s at ≡ step.End
-  at-end h = sym (ended s at h)
+  pub at_end : length s ≤ at → step_at s at ≡ step.End
+  at_end h = sym (ended s at h)
 
-  pub end-at : step_at s at ≡ step.End → length s ≤ at
-  end-at e = subst Placed e placed
+  pub end_at : step_at s at ≡ step.End → length s ≤ at
+  end_at e = subst Placed e placed
 
-  pub refused-at : (w : Reason) → step_at s at ≡ step.Refused w → at < length s
-  refused-at w e = subst Placed e placed
+  pub refused_at : (w : Reason) → step_at s at ≡ step.Refused w → at < length s
+  refused_at w e = subst Placed e placed
 
   module _ (c : Command) (next : ℕ) (e : step_at s at ≡ step.Command c next) where
-    pub next-in : Within s at next
-    next-in = subst Placed e placed
+    pub next_in_is : Within s at next
+    next_in_is = subst Placed e placed
 
     -- the loop's measure falls
     pub further : length s - next < length s - at
-    further = let w = next-in in omega arith
+    further = let w = next_in_is in omega arith

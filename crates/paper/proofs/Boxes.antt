@@ -48,14 +48,14 @@ module _ (g : Origin) (t : Transform) (o : Point) (s : List ℕ) where
   unfolding placement
   place_is r e = ap (placement_of g t o) e
 
-  of-fault : (n i : ℕ) → read_list t o s ≡ faulty n i → placement g t o s ≡ unlaid n i
+  of_fault : (n i : ℕ) → read_list t o s ≡ faulty n i → placement g t o s ≡ unlaid n i
   unfolding placement_of
-  of-fault n i e = place_is (faulty n i) e
+  of_fault n i e = place_is (faulty n i) e
 
-  pub of-path : (c : Command) (cs : List Command) → read_list t o s ≡ path (c ∷ cs)
+  pub of_path : (c : Command) (cs : List Command) → read_list t o s ≡ path (c ∷ cs)
       → placement g t o s ≡ around g o (box_of (points_in t (c ∷ cs))) (cut_in t o (c ∷ cs))
   unfolding placement_of
-  of-path c cs e = place_is (path (c ∷ cs)) e
+  of_path c cs e = place_is (path (c ∷ cs)) e
 
   pub of_none : (b : Bool) → passes o ≡ b → read_list t o s ≡ path []
       → placement g t o s ≡ cond b (around g o (record { min = origin; max = origin }) 0) (unlaid 12 0)
@@ -73,8 +73,8 @@ module _ (g : Origin) (t : Transform) (o : Point) (s : List ℕ) where
   abbrev Bare : PlaceNumbers → Type 0
   Bare p = 0 < p.number → p ≡ unlaid p.number p.index
 
-  some-path : {X : Type 0} {c : Command} {cs : List Command} → path [] ≡ path (c ∷ cs) → X
-  some-path e = absurd (let z : ◌≡◌ {A = ℕ} 0 1 = cc in omega arith)
+  some_path : {X : Type 0} {c : Command} {cs : List Command} → path [] ≡ path (c ∷ cs) → X
+  some_path e = absurd (let z : ◌≡◌ {A = ℕ} 0 1 = cc in omega arith)
 
   passed : {X : Type 0} → passes o ≡ true → passes o ≡ false → X
   passed a b = absurd (let z : ◌≡◌ {A = ℕ} 0 1 = cc in omega arith)
@@ -101,18 +101,18 @@ module _ (g : Origin) (t : Transform) (o : Point) (s : List ℕ) where
   pub places : (n i : ℕ) → 1 ≤ n → (r : Read) → read_list t o s ≡ r → Says (placement g t o s) n i
   places n i a (path []) e = tested n i a e (passes o) refl
   places n i a (path (c ∷ cs)) e =
-      rw (of-path c cs e)
-      (λ p. absurd (omega (arith, p.0)), λ q. absurd (fine n i (c ∷ cs) e (λ z. some-path (ap path (sym z))) q))
-  places n i a (faulty m j) e = rw (of-fault m j e) (
+      rw (of_path c cs e)
+      (λ p. absurd (omega (arith, p.0)), λ q. absurd (fine n i (c ∷ cs) e (λ z. some_path (ap path (sym z))) q))
+  places n i a (faulty m j) e = rw (of_fault m j e) (
     λ p. inl (e ∙ same_fault p.0 p.1),
     elim [ inl q ↦ (one_number (sym e ∙ q), one_index (sym e ∙ q)) | inr q ↦ no_path (sym q.0 ∙ e) ],
   )
 
-  bare-none : read_list t o s ≡ path [] → (b : Bool) → passes o ≡ b → Bare (placement g t o s)
-  bare-none e true h = rw (of_none true h e) (λ p. absurd (omega arith))
-  bare-none e false h = rw (of_none false h e) (λ p. refl)
+  bare_none : read_list t o s ≡ path [] → (b : Bool) → passes o ≡ b → Bare (placement g t o s)
+  bare_none e true h = rw (of_none true h e) (λ p. absurd (omega arith))
+  bare_none e false h = rw (of_none false h e) (λ p. refl)
 
   pub bare : (r : Read) → read_list t o s ≡ r → Bare (placement g t o s)
-  bare (path []) e = bare-none e (passes o) refl
-  bare (path (c ∷ cs)) e = rw (of-path c cs e) (λ p. absurd (omega arith))
-  bare (faulty m j) e = rw (of-fault m j e) (λ p. refl)
+  bare (path []) e = bare_none e (passes o) refl
+  bare (path (c ∷ cs)) e = rw (of_path c cs e) (λ p. absurd (omega arith))
+  bare (faulty m j) e = rw (of_fault m j e) (λ p. refl)

@@ -18,7 +18,7 @@ use Rattle.paper.specs.Bytes.{painted}
 use Rattle.paper.specs.Drawing.{Outcome, refused, accepted, wiped, one_full, first_of, inked, draw_read, draw_in}
 use Rattle.paper.specs.Demands.{number, In, place, Answered, EveryCall}
 use Rattle.paper.proofs.Faults.{size_most, Listed, ListedRead, not_thirteen, answer_most, list_listed}
-use Rattle.paper.proofs.Pictures.{sound, pixel-at}
+use Rattle.paper.proofs.Pictures.{sound, pixel_at}
 
 one_path : {cs cs' : List Command} → path cs ≡ path cs' → cs ≡ cs'
 one_path e = cc
@@ -57,9 +57,9 @@ module _ (bands : List Label) (l : Label) (s mask words : List ℕ) where
   unfolding draw_in
   by_read r e g = ap by_number e ∙ ap (λ (z : Read). draw_read bands l z mask words) g
 
-  pub by-fault : (n i : ℕ) → size ≡ 0 → read ≡ faulty n i → out ≡ refused n i mask words
+  pub by_fault : (n i : ℕ) → size ≡ 0 → read ≡ faulty n i → out ≡ refused n i mask words
   unfolding draw_read
-  by-fault n i e g = by_read (faulty n i) e g
+  by_fault n i e g = by_read (faulty n i) e g
 
   -- a path, by the test whether a band is full
   abbrev by_test : List Command → Bool → Outcome
@@ -67,15 +67,15 @@ module _ (bands : List Label) (l : Label) (s mask words : List ℕ) where
       let full : Option ℕ = elim t [ true ↦ some (first_of (length words) cs bands) | false ↦ none ] in
       inked full l cs mask words
 
-  pub by-full : (cs : List Command) → size ≡ 0 → read ≡ path cs → one_full (length words) cs bands ≡ true
+  pub by_full : (cs : List Command) → size ≡ 0 → read ≡ path cs → one_full (length words) cs bands ≡ true
       → out ≡ refused 13 (first_of (length words) cs bands) mask (wiped words)
   unfolding draw_read inked
-  by-full cs e g t = by_read (path cs) e g ∙ ap (by_test cs) t
+  by_full cs e g t = by_read (path cs) e g ∙ ap (by_test cs) t
 
-  pub by-path : (cs : List Command) → size ≡ 0 → read ≡ path cs → one_full (length words) cs bands ≡ false
+  pub by_path : (cs : List Command) → size ≡ 0 → read ≡ path cs → one_full (length words) cs bands ≡ false
       → out ≡ accepted (length cs) (distinct (cells_of l cs)) (cut_in l.transform l.offset cs) (painted l (cells_of l cs) 0 mask) (wiped words)
   unfolding draw_read inked
-  by-path cs e g t = by_read (path cs) e g ∙ ap (by_test cs) t
+  by_path cs e g t = by_read (path cs) e g ∙ ap (by_test cs) t
 
   -- ---- what each leaves
   module _ (Full : List Command → Type 0) (Out : List Command → ℕ → Type 0)
@@ -103,8 +103,8 @@ module _ (bands : List Label) (l : Label) (s mask words : List ℕ) where
           words_wiped = elim [ inl p ↦ absurd (omega arith) | inr p ↦ absurd (omega arith) ];
         }
 
-    of-fault : (n i : ℕ) → size ≡ 0 → read ≡ faulty n i → Listed n i → Good (refused n i mask words)
-    of-fault n i e g h =
+    of_fault : (n i : ℕ) → size ≡ 0 → read ≡ faulty n i → Listed n i → Good (refused n i mask words)
+    of_fault n i e g h =
         let least = h.least in
         let other = not_thirteen h.most in
         record {
@@ -130,8 +130,8 @@ module _ (bands : List Label) (l : Label) (s mask words : List ℕ) where
       same_out : (cs' : List Command) → read ≡ path cs' → (i : ℕ) → Out cs i ↔ Out cs' i
       same_out cs' p i = rw (one_path (sym g ∙ p)) (λ h. h, λ h. h)
 
-      of-full : one_full (length words) cs bands ≡ true → Good (refused 13 (first_of (length words) cs bands) mask (wiped words))
-      of-full t = record {
+      of_full : one_full (length words) cs bands ≡ true → Good (refused 13 (first_of (length words) cs bands) mask (wiped words))
+      of_full t = record {
         answers = inl (omega arith);
         sizes = λ m a b. (λ p. absurd (omega arith), λ q. absurd (omega arith));
         records = λ m j a b. (λ p. absurd (b (sym p.0)), λ q. no_path (sym g ∙ q.1));
@@ -152,9 +152,9 @@ module _ (bands : List Label) (l : Label) (s mask words : List ℕ) where
       not_full : one_full (length words) cs bands ≡ false → Full cs → ⊥
       not_full t h = let u = (asked cs).1 h in let z : ◌≡◌ {A = ℕ} 0 1 = cc in omega arith
 
-      of-path : one_full (length words) cs bands ≡ false → (after : List ℕ)
+      of_path : one_full (length words) cs bands ≡ false → (after : List ℕ)
           → Good (accepted (length cs) (distinct (cells_of l cs)) (cut_in l.transform l.offset cs) after (wiped words))
-      of-path t after = record {
+      of_path t after = record {
         answers = inl (omega arith);
         sizes = λ m a b. (λ p. absurd (omega arith), λ q. absurd (omega arith));
         records = λ m j a b. (λ p. absurd (omega (arith, p.0)), λ q. no_path (sym g ∙ q.1));
@@ -172,21 +172,21 @@ module _ (bands : List Label) (l : Label) (s mask words : List ℕ) where
       }
 
     -- ---- and one of them it is
-    full-or : (cs : List Command) → size ≡ 0 → read ≡ path cs → (t : Bool) → one_full (length words) cs bands ≡ t
+    full_or : (cs : List Command) → size ≡ 0 → read ≡ path cs → (t : Bool) → one_full (length words) cs bands ≡ t
         → Good out
-    full-or cs e g true t = rw (by-full cs e g t) (of-full cs e g t)
-    full-or cs e g false t = rw (by-path cs e g t) (of-path cs e g t (painted l (cells_of l cs) 0 mask))
+    full_or cs e g true t = rw (by_full cs e g t) (of_full cs e g t)
+    full_or cs e g false t = rw (by_path cs e g t) (of_path cs e g t (painted l (cells_of l cs) 0 mask))
 
-    read-or : size ≡ 0 → (r : Read) → read ≡ r → ListedRead r → Good out
-    read-or e (faulty n i) g h = rw (by-fault n i e g) (of-fault n i e g h)
-    read-or e (path cs) g h = full-or cs e g (one_full (length words) cs bands) refl
+    read_or : size ≡ 0 → (r : Read) → read ≡ r → ListedRead r → Good out
+    read_or e (faulty n i) g h = rw (by_fault n i e g) (of_fault n i e g h)
+    read_or e (path cs) g h = full_or cs e g (one_full (length words) cs bands) refl
 
-    size-or : (k : ℕ) → size ≡ k → Good out
-    size-or zero e = read-or e read refl (list_listed l.transform l.offset s)
-    size-or (suc k) e = rw (by_size k e) (of_size k e)
+    size_or : (k : ℕ) → size ≡ k → Good out
+    size_or zero e = read_or e read refl (list_listed l.transform l.offset s)
+    size_or (suc k) e = rw (by_size k e) (of_size k e)
 
     pub answered : Answered Full Out l s mask words (draw_in bands l s mask words)
-    answered = size-or size refl
+    answered = size_or size refl
 
 -- ---- other words
 module _ (bands : List Label) (l : Label) (s mask words words' : List ℕ) (e : length words ≡ length words') where
@@ -200,31 +200,31 @@ module _ (bands : List Label) (l : Label) (s mask words words' : List ℕ) (e : 
   two = draw_in bands l s mask words'
 
   -- the sizes are judged by how many words there are
-  other-size : (k : ℕ) → size_fault l (length mask) (length words) ≡ k → size_fault l (length mask) (length words') ≡ k
-  other-size k h = rw e at h
+  other_size : (k : ℕ) → size_fault l (length mask) (length words) ≡ k → size_fault l (length mask) (length words') ≡ k
+  other_size k h = rw e at h
 
-  words-full : (cs : List Command) → size bands l s mask words ≡ 0 → read bands l s mask words ≡ path cs
+  words_full : (cs : List Command) → size bands l s mask words ≡ 0 → read bands l s mask words ≡ path cs
       → (t : Bool) → one_full (length words) cs bands ≡ t → SameButWords one two
-  words-full cs h g true t =
-      rw (by-full bands l s mask words cs h g t, by-full bands l s mask words' cs (other-size 0 h) g (rw e at t), e)
+  words_full cs h g true t =
+      rw (by_full bands l s mask words cs h g t, by_full bands l s mask words' cs (other_size 0 h) g (rw e at t), e)
       (refl, refl)
-  words-full cs h g false t =
-      rw (by-path bands l s mask words cs h g t, by-path bands l s mask words' cs (other-size 0 h) g (rw e at t))
+  words_full cs h g false t =
+      rw (by_path bands l s mask words cs h g t, by_path bands l s mask words' cs (other_size 0 h) g (rw e at t))
       (refl, refl)
 
-  words-read : size bands l s mask words ≡ 0 → (r : Read) → read bands l s mask words ≡ r → SameButWords one two
-  words-read h (faulty n i) g =
-      rw (by-fault bands l s mask words n i h g, by-fault bands l s mask words' n i (other-size 0 h) g) (refl, refl)
-  words-read h (path cs) g = words-full cs h g (one_full (length words) cs bands) refl
+  words_read : size bands l s mask words ≡ 0 → (r : Read) → read bands l s mask words ≡ r → SameButWords one two
+  words_read h (faulty n i) g =
+      rw (by_fault bands l s mask words n i h g, by_fault bands l s mask words' n i (other_size 0 h) g) (refl, refl)
+  words_read h (path cs) g = words_full cs h g (one_full (length words) cs bands) refl
 
   words_size : (k : ℕ) → size bands l s mask words ≡ k → SameButWords one two
-  words_size zero h = words-read h (read bands l s mask words) refl
+  words_size zero h = words_read h (read bands l s mask words) refl
   words_size (suc k) h =
-      rw (by_size bands l s mask words k h, by_size bands l s mask words' k (other-size (suc k) h)) (refl, refl)
+      rw (by_size bands l s mask words k h, by_size bands l s mask words' k (other_size (suc k) h)) (refl, refl)
 
-  pub same-but-words : ((draw_in bands l s mask words).answer ≡ (draw_in bands l s mask words').answer)
+  pub same_but_words : ((draw_in bands l s mask words).answer ≡ (draw_in bands l s mask words').answer)
       × ((draw_in bands l s mask words).mask ≡ (draw_in bands l s mask words').mask)
-  same-but-words = words_size (size bands l s mask words) refl
+  same_but_words = words_size (size bands l s mask words) refl
 
 -- ---- other bytes
 module _ (bands : List Label) (l : Label) (s mask mask' words : List ℕ) (e : length mask ≡ length mask') where
@@ -238,41 +238,41 @@ module _ (bands : List Label) (l : Label) (s mask mask' words : List ℕ) (e : l
   abbrev after : Outcome
   after = draw_in bands l s mask' words
 
-  other-mask : (k : ℕ) → size_fault l (length mask) (length words) ≡ k → size_fault l (length mask') (length words) ≡ k
-  other-mask k h = rw e at h
+  other_mask : (k : ℕ) → size_fault l (length mask) (length words) ≡ k → size_fault l (length mask') (length words) ≡ k
+  other_mask k h = rw e at h
 
   mask_full : (cs : List Command) → size bands l s mask words ≡ 0 → read bands l s mask words ≡ path cs
       → (t : Bool) → one_full (length words) cs bands ≡ t → SameButMask before after
   mask_full cs h g true t =
-      rw (by-full bands l s mask words cs h g t, by-full bands l s mask' words cs (other-mask 0 h) g t)
+      rw (by_full bands l s mask words cs h g t, by_full bands l s mask' words cs (other_mask 0 h) g t)
       (refl, refl, λ y x p. absurd (omega arith))
   mask_full cs h g false t =
       let fit = sound l (length mask) (length words) h in
-      let fit' = sound l (length mask') (length words) (other-mask 0 h) in
-      rw (by-path bands l s mask words cs h g t, by-path bands l s mask' words cs (other-mask 0 h) g t) (
+      let fit' = sound l (length mask') (length words) (other_mask 0 h) in
+      rw (by_path bands l s mask words cs h g t, by_path bands l s mask' words cs (other_mask 0 h) g t) (
         refl,
         refl,
         λ y x p q.
-            pixel-at l (cells_of l cs) mask (length words) fit y x q
-            ∙ sym (pixel-at l (cells_of l cs) mask' (length words) fit' y x q),
+            pixel_at l (cells_of l cs) mask (length words) fit y x q
+            ∙ sym (pixel_at l (cells_of l cs) mask' (length words) fit' y x q),
       )
 
-  mask-read : size bands l s mask words ≡ 0 → (r : Read) → read bands l s mask words ≡ r → ListedRead r
+  mask_read : size bands l s mask words ≡ 0 → (r : Read) → read bands l s mask words ≡ r → ListedRead r
       → SameButMask before after
-  mask-read h (faulty n i) g k =
+  mask_read h (faulty n i) g k =
       let least = k.least in
-      rw (by-fault bands l s mask words n i h g, by-fault bands l s mask' words n i (other-mask 0 h) g)
+      rw (by_fault bands l s mask words n i h g, by_fault bands l s mask' words n i (other_mask 0 h) g)
       (refl, refl, λ y x p. absurd (omega arith))
-  mask-read h (path cs) g k = mask_full cs h g (one_full (length words) cs bands) refl
+  mask_read h (path cs) g k = mask_full cs h g (one_full (length words) cs bands) refl
 
   mask_size : (k : ℕ) → size bands l s mask words ≡ k → SameButMask before after
-  mask_size zero h = mask-read h (read bands l s mask words) refl (list_listed l.transform l.offset s)
+  mask_size zero h = mask_read h (read bands l s mask words) refl (list_listed l.transform l.offset s)
   mask_size (suc k) h =
-      rw (by_size bands l s mask words k h, by_size bands l s mask' words k (other-mask (suc k) h))
+      rw (by_size bands l s mask words k h, by_size bands l s mask' words k (other_mask (suc k) h))
       (refl, refl, λ y x p. absurd (omega arith))
 
-  pub same-but-mask : SameButMask before after
-  same-but-mask = mask_size (size bands l s mask words) refl
+  pub same_but_mask : SameButMask before after
+  same_but_mask = mask_size (size bands l s mask words) refl
 
 -- ---- of every call, in whatever bands
 module _ (bands : Label → List Label) (Full : Label → ℕ → List Command → Type 0)
@@ -304,28 +304,28 @@ module _ (bands : Label → List Label) (Full : Label → ℕ → List Command �
       go o h = of_number o h (dec_lt 0 (number o)) (ℕ_discrete (number o) 13)
 
   -- after 0 and 13 two workspaces of one length are one
-  both-wiped : (l : Label) (s mask words words' : List ℕ) → length words ≡ length words' → (o o' : Outcome)
+  both_wiped : (l : Label) (s mask words words' : List ℕ) → length words ≡ length words' → (o o' : Outcome)
       → Call l s mask words o → Call l s mask words' o'
       → o.answer ≡ o'.answer → (number o ≡ 0) ⊎ (number o ≡ 13) → o.words ≡ o'.words
-  both-wiped l s mask words words' e o o' h h' same p =
+  both_wiped l s mask words words' e o o' h h' same p =
       h.words_wiped p ∙ ap (λ (n : ℕ). replicate n 0) e ∙ sym (h'.words_wiped (there p))
     where
       there : (number o ≡ 0) ⊎ (number o ≡ 13) → (number o' ≡ 0) ⊎ (number o' ≡ 13)
       there (inl q) = inl (sym (ap (λ (a : Numbers). a.number) same) ∙ q)
       there (inr q) = inr (sym (ap (λ (a : Numbers). a.number) same) ∙ q)
 
-  pub by-bands : EveryCall (λ l. draw_in (bands l) l) Full Out
-  by-bands = record {
+  pub by_bands : EveryCall (λ l. draw_in (bands l) l) Full Out
+  by_bands = record {
     answered = calls;
     next_label = λ l last s s' mask mask' words.
-        same-but-words (bands l) l s mask (draw_in (bands last) last s' mask' words).words words
+        same_but_words (bands l) l s mask (draw_in (bands last) last s' mask' words).words words
         (as_many last s' mask' words);
     old_words = λ l s mask words words' e.
-        let same = same-but-words (bands l) l s mask words words' e in (
+        let same = same_but_words (bands l) l s mask words words' e in (
           same.0,
           same.1,
-          both-wiped l s mask words words' e (draw_in (bands l) l s mask words) (draw_in (bands l) l s mask words')
+          both_wiped l s mask words words' e (draw_in (bands l) l s mask words) (draw_in (bands l) l s mask words')
               (calls l s mask words) (calls l s mask words') same.0,
         );
-    old_mask = λ l s mask mask' words e. same-but-mask (bands l) l s mask mask' words e;
+    old_mask = λ l s mask mask' words e. same_but_mask (bands l) l s mask mask' words e;
   }

@@ -85,18 +85,18 @@ line_within n k i x a y b t l p q r s u =
     ((f.0, g.0), g.1)
 
 module _ (k n m : ℕ) (t : Transform) (h : Entries (Within n) (Within m) t) (x y : Float) (p : Within k x) (q : Within k y) where
-  vector-within : k * n + k * n ≤ 2 ^ 24
+  vector_within : k * n + k * n ≤ 2 ^ 24
       → ExactVector t x y
       × Within (k * n + k * n) (x ⊗ t.xx ⊕ y ⊗ t.yx) × Within (k * n + k * n) (x ⊗ t.xy ⊕ y ⊗ t.yy)
-  vector-within l =
+  vector_within l =
       let f = pair_within k n x t.xx y t.yx l p h.0 q h.2 in
       let g = pair_within k n x t.xy y t.yy l p h.1 q h.3 in
       ((f.0, g.0), f.1, g.1)
 
-  point-within : k * n + k * n + m ≤ 2 ^ 24
+  point_within : k * n + k * n + m ≤ 2 ^ 24
       → ExactPoint t x y
       × Within (k * n + k * n + m) (x ⊗ t.xx ⊕ y ⊗ t.yx ⊕ t.x) × Within (k * n + k * n + m) (x ⊗ t.xy ⊕ y ⊗ t.yy ⊕ t.y)
-  point-within l =
+  point_within l =
       let f = line_within k n m x t.xx y t.yx t.x l p h.0 q h.2 h.4 in
       let g = line_within k n m x t.xy y t.yy t.y l p h.1 q h.3 h.5 in
       ((f.0, g.0), f.1, g.1)
@@ -119,35 +119,35 @@ module _ (n m : ℕ) (M : 1 ≤ m) (L : m + 2 * m * n + 4 * m * n * n ≤ 2 ^ 24
   largest : m + 2 * (m * n) + 4 * (m * (n * n)) ≤ 2 ^ 24
   largest = simp (mul_assoc) at L
 
-  entry-fits : n * n + n * n ≤ 2 ^ 24
-  entry-fits =
+  entry_fits : n * n + n * n ≤ 2 ^ 24
+  entry_fits =
       let h : n * n ≤ m * (n * n) = le_trans (le_of_eq (sym (one-mul (n * n)))) (mul-le-mul_right (n * n) M) in
       omega (arith, largest)
 
-  move-fits : m * n + m * n + m ≤ 2 ^ 24
-  move-fits = omega (arith, largest)
+  move_fits : m * n + m * n + m ≤ 2 ^ 24
+  move_fits = omega (arith, largest)
 
-  once-fits : m * (n * n + n * n) + m * (n * n + n * n) + (m * n + m * n + m) ≤ 2 ^ 24
-  once-fits = rw (mul-add m (n * n) (n * n)) (omega (arith, largest))
+  once_fits : m * (n * n + n * n) + m * (n * n + n * n) + (m * n + m * n + m) ≤ 2 ^ 24
+  once_fits = rw (mul-add m (n * n) (n * n)) (omega (arith, largest))
 
-  there-fits : (m * n + m * n + m) * n + (m * n + m * n + m) * n + m ≤ 2 ^ 24
-  there-fits = simp (add-mul, mul_assoc) (omega (arith, largest))
+  there_fits : (m * n + m * n + m) * n + (m * n + m * n + m) * n + m ≤ 2 ^ 24
+  there_fits = simp (add-mul, mul_assoc) (omega (arith, largest))
 
   small : (a b : Transform) (p : Point) → Small n m a b p → Exact a b p
   small a b p (f, g, u, v) =
-      let upper = vector-within n n m b g a.xx a.xy f.0 f.1 entry-fits in
-      let lower = vector-within n n m b g a.yx a.yy f.2 f.3 entry-fits in
-      let move = point-within m n m b g a.x a.y f.4 f.5 move-fits in
-      let here = point-within m n m a f p.x p.y u v move-fits in
+      let upper = vector_within n n m b g a.xx a.xy f.0 f.1 entry_fits in
+      let lower = vector_within n n m b g a.yx a.yy f.2 f.3 entry_fits in
+      let move = point_within m n m b g a.x a.y f.4 f.5 move_fits in
+      let here = point_within m n m a f p.x p.y u v move_fits in
       record {
         first = all_known n m a f;
         second = all_known n m b g;
         point = (known m p.x u, known m p.y v);
         combined = (upper.0, lower.0, move.0);
-        once = (point-within m (n * n + n * n) (m * n + m * n + m) (combine a b)
-            (upper.1, upper.2, lower.1, lower.2, move.1, move.2) p.x p.y u v once-fits).0;
+        once = (point_within m (n * n + n * n) (m * n + m * n + m) (combine a b)
+            (upper.1, upper.2, lower.1, lower.2, move.1, move.2) p.x p.y u v once_fits).0;
         here = here.0;
-        there = (point-within (m * n + m * n + m) n m b g (moved a p).x (moved a p).y here.1 here.2 there-fits).0;
+        there = (point_within (m * n + m * n + m) n m b g (moved a p).x (moved a p).y here.1 here.2 there_fits).0;
       }
 
 -- ---- the Rust's

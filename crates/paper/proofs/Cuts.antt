@@ -37,21 +37,21 @@ cut_append [] qs = omega arith
 cut_append (p ∷ ps) qs = omega (arith, cut_append ps qs)
 
 module _ (t : Transform) (o : Point) where
-  cut-points : (ps : List Point) → cut_of (map (shifted o) (map (moved t) ps)) ≡ reading.cuts_at t o ps
+  cut_points : (ps : List Point) → cut_of (map (shifted o) (map (moved t) ps)) ≡ reading.cuts_at t o ps
   unfolding cut_of reading.cuts_at
-  cut-points [] = refl
-  cut-points (p ∷ ps) =
+  cut_points [] = refl
+  cut_points (p ∷ ps) =
       let q = shifted o (moved t p) in
-      rw (one_cut q.x, one_cut q.y, cut-points ps)
+      rw (one_cut q.x, one_cut q.y, cut_points ps)
 
   -- OF EVERY PATH
-  pub cut-held : (cs : List Command) → cut_in t o cs ≡ reading.cuts_in t o cs
+  pub cut_held : (cs : List Command) → cut_in t o cs ≡ reading.cuts_in t o cs
   unfolding points_in cut_of reading.cuts_in
-  cut-held [] = refl
-  cut-held (c ∷ cs) =
+  cut_held [] = refl
+  cut_held (c ∷ cs) =
       ap cut_of (map-append (shifted o) (map (moved t) (points_of c)) (points_in t cs))
       ∙ cut_append (map (shifted o) (map (moved t) (points_of c))) (map (shifted o) (points_in t cs))
-      ∙ rw (cut-points (points_of c), cut-held cs, points_of_is c)
+      ∙ rw (cut_points (points_of c), cut_held cs, points_of_is c)
 
 -- ---- a coordinate that passes the point rule
 whole_rest : (a d : ℕ) → not (eqb (a % d) 0) ≡ false ↔ (n : ℕ) × (a ≡ n * d)
@@ -96,12 +96,12 @@ module _ (o : Point) where
   abbrev AllOnGrid : List Point → Type 0
   AllOnGrid ps = (i : ℕ) → i < length ps → Grid (shifted o (get_or ps i origin))
 
-  points-on-grid : (ps : List Point) → AllNear ps → cut_of (map (shifted o) ps) ≡ 0 ↔ AllOnGrid ps
+  points_on_grid : (ps : List Point) → AllNear ps → cut_of (map (shifted o) ps) ≡ 0 ↔ AllOnGrid ps
   unfolding cut_of
-  points-on-grid [] h = (λ e i q. absurd (omega arith), λ g. refl)
-  points-on-grid (p ∷ ps) h =
+  points_on_grid [] h = (λ e i q. absurd (omega arith), λ g. refl)
+  points_on_grid (p ∷ ps) h =
       let one = point_on_grid (shifted o p) (cut_of (map (shifted o) ps)) h.0 in
-      let rest = points-on-grid ps h.1 in
+      let rest = points_on_grid ps h.1 in
       (λ e. first (one.0 e).0 (rest.0 (one.0 e).1), λ g. one.1 (g 0 (omega arith), rest.1 (λ i q. g (suc i) (omega arith))))
     where
       first : Grid (shifted o p) → AllOnGrid ps → AllOnGrid (p ∷ ps)
@@ -109,16 +109,16 @@ module _ (o : Point) where
       first a b (suc i) q = b i (omega arith)
 
 module _ (t : Transform) (o : Point) where
-  near-points : (ps qs : List Point) → all_pass t o ps ≡ true → AllNear o qs → AllNear o (map (moved t) ps ++ qs)
+  near_points : (ps qs : List Point) → all_pass t o ps ≡ true → AllNear o qs → AllNear o (map (moved t) ps ++ qs)
   unfolding all_pass
-  near-points [] qs e h = h
-  near-points (p ∷ ps) qs e h = let k = both_true (passes (shifted o (moved t p))) (all_pass t o ps) e in (k.0, near-points ps qs k.1 h)
+  near_points [] qs e h = h
+  near_points (p ∷ ps) qs e h = let k = both_true (passes (shifted o (moved t p))) (all_pass t o ps) e in (k.0, near_points ps qs k.1 h)
 
-  near-path : (cs : List Command) → AllPassed t o cs → AllNear o (points_in t cs)
+  near_path : (cs : List Command) → AllPassed t o cs → AllNear o (points_in t cs)
   unfolding points_in
-  near-path [] h = tt
-  near-path (c ∷ cs) h = near-points (points_of c) (points_in t cs) h.0 (near-path cs h.1)
+  near_path [] h = tt
+  near_path (c ∷ cs) h = near_points (points_of c) (points_in t cs) h.0 (near_path cs h.1)
 
   -- OF EVERY PATH WHOSE POINTS PASS
   pub uncut : (cs : List Command) → AllPassed t o cs → cut_in t o cs ≡ 0 ↔ AllOnGrid o (points_in t cs)
-  uncut cs h = points-on-grid o (points_in t cs) (near-path cs h)
+  uncut cs h = points_on_grid o (points_in t cs) (near_path cs h)

@@ -13,11 +13,11 @@ use Rattle.paper.specs.Cells.{cells_of}
 use Rattle.paper.specs.Bytes.{painted}
 use Rattle.paper.specs.Drawing.{one_full, first_of, draw_in, draw, bands_from, draw_in_bands}
 use Rattle.paper.specs.Demands.{number, Pictured, Demand2}
-use Rattle.paper.proofs.Pictures.{sound, painted-long, inside, pixel-at, other_at}
+use Rattle.paper.proofs.Pictures.{sound, painted_long, inside, pixel_at, other_at}
 use Rattle.paper.proofs.Reading.{path_passed}
 use Rattle.paper.proofs.Cuts.{uncut}
-use Rattle.paper.proofs.Calls.{by-full, by-path, answered}
-use Rattle.paper.proofs.Boxes.{box_is, of-path, of_none}
+use Rattle.paper.proofs.Calls.{by_full, by_path, answered}
+use Rattle.paper.proofs.Boxes.{box_is, of_path, of_none}
 
 -- ---- an accepted list, drawn in whatever bands
 module _ (bands : List Label) (l : Label) (s mask words : List ℕ) (cs : List Command)
@@ -28,26 +28,26 @@ module _ (bands : List Label) (l : Label) (s mask words : List ℕ) (cs : List C
   abbrev Out : List Command → ℕ → Type 0
   Out ks i = first_of (length words) ks bands ≡ i
 
-  a-mask : (h : size_fault l (length mask) (length words) ≡ 0) → Pictured l cs mask (painted l (cells_of l cs) 0 mask)
-  a-mask h =
+  a_mask : (h : size_fault l (length mask) (length words) ≡ 0) → Pictured l cs mask (painted l (cells_of l cs) 0 mask)
+  a_mask h =
       let fit = sound l (length mask) (length words) h in
       record {
-        long = painted-long l (cells_of l cs) 0 mask;
+        long = painted_long l (cells_of l cs) 0 mask;
         inside = inside l (cells_of l cs) mask (length words) fit;
-        pixels = pixel-at l (cells_of l cs) mask (length words) fit;
+        pixels = pixel_at l (cells_of l cs) mask (length words) fit;
         others = other_at l (cells_of l cs) mask;
       }
 
-  full-or : size_fault l (length mask) (length words) ≡ 0 → (t : Bool) → one_full (length words) cs bands ≡ t
+  full_or : size_fault l (length mask) (length words) ≡ 0 → (t : Bool) → one_full (length words) cs bands ≡ t
       → number (draw_in bands l s mask words) ≡ 0 → Pictured l cs mask (draw_in bands l s mask words).mask
-  full-or h true t e =
-      absurd (let z : 13 ≡ 0 = sym (ap number (by-full bands l s mask words cs h g t)) ∙ e in omega arith)
-  full-or h false t e = rw (by-path bands l s mask words cs h g t) (a-mask h)
+  full_or h true t e =
+      absurd (let z : 13 ≡ 0 = sym (ap number (by_full bands l s mask words cs h g t)) ∙ e in omega arith)
+  full_or h false t e = rw (by_path bands l s mask words cs h g t) (a_mask h)
 
   pub pictured : number (draw_in bands l s mask words) ≡ 0 → Pictured l cs mask (draw_in bands l s mask words).mask
   pictured e =
       let why = (answered bands l s mask words Full Out (λ ks. (λ t. t, λ t. t)) (λ ks w t i. (λ e. e, λ e. e))).accepted.0 e in
-      full-or why.1 (one_full (length words) cs bands) refl e
+      full_or why.1 (one_full (length words) cs bands) refl e
 
 at_once_is : (l : Label) (s mask words : List ℕ) (cs : List Command)
     → number (draw l s mask words) ≡ 0 → read_list l.transform l.offset s ≡ path cs
@@ -67,7 +67,7 @@ demand2 = record {
   at_once = at_once_is;
   in_bands = in_bands_is;
   boxes = λ t s cs e. box_is t s (path cs) e;
-  places = of-path;
+  places = of_path;
   nowhere = λ g t o s e h. of_none g t o s true h e;
   uncut = λ t o s cs e. uncut t o cs (path_passed t o s cs e);
 }

@@ -118,11 +118,11 @@ module _ (l : Label) (s mask words : List ℕ) (e : number (draw (whole l) s mas
   counts from [] = refl
   counts from (p ∷ ps) = rw (answer_of_is (band l from p.end) s p.mask p.words, counts p.end ps)
 
-  add-up : (ps : List Piece) → Partition l (length words) 0 ps
+  add_up_is : (ps : List Piece) → Partition l (length words) 0 ps
       → cells_over l s 0 ps ≡ (draw (whole l) s mask words).answer.cells
-  add-up ps h =
+  add_up_is ps h =
       counts 0 ps
-      ∙ claimed.cells-add-up l s mask words all.answer.records all.answer.cells all.answer.cut was (pieces ps) (cuts 0 ps h)
+      ∙ claimed.cells_add_up l s mask words all.answer.records all.answer.cells all.answer.cut was (pieces ps) (cuts 0 ps h)
 
 -- ---- at once and in bands
 in_bands_is : (step : ℕ) (l : Label) (s mask words : List ℕ) → number (draw l s mask words) ≡ 0
@@ -134,4 +134,4 @@ in_bands_is step l s mask words e =
     ∙ sym (draws l s mask words)
 
 pub demand3 : Demand3
-demand3 = record { bands = agrees; add_up = add-up; in_bands = in_bands_is }
+demand3 = record { bands = agrees; add_up = add_up_is; in_bands = in_bands_is }

@@ -61,10 +61,10 @@ sound l mask words e =
 
 -- ---- a byte by its index
 module _ (l : Label) (ds : List Pair) where
-  pub painted-long : (i : ℕ) (mask : List ℕ) → length (painted l ds i mask) ≡ length mask
+  pub painted_long : (i : ℕ) (mask : List ℕ) → length (painted l ds i mask) ≡ length mask
   unfolding painted
-  painted-long i [] = refl
-  painted-long i (b ∷ bs) = ap suc (painted-long (i + 1) bs)
+  painted_long i [] = refl
+  painted_long i (b ∷ bs) = ap suc (painted_long (i + 1) bs)
 
   from_at : (i : ℕ) (mask : List ℕ) (j : ℕ) → j < length mask
       → get_or (painted l ds i mask) j 0 ≡ byte_at l ds (i + j) (get_or mask j 0)
@@ -82,8 +82,8 @@ module _ (l : Label) (ds : List Pair) where
   abbrev line : ℕ → ℕ
   line y = cond l.up (l.end - 1 - y) (y - l.first)
 
-  line-in : (y : ℕ) → l.first ≤ y → y < l.end → line y < rows l
-  line-in y p q = go l.up
+  line_in : (y : ℕ) → l.first ≤ y → y < l.end → line y < rows l
+  line_in y p q = go l.up
     where
       go : (u : Bool) → cond u (l.end - 1 - y) (y - l.first) < rows l
       go true = omega arith
@@ -101,19 +101,19 @@ module _ (l : Label) (ds : List Pair) where
   module _ (mask : List ℕ) (words : ℕ) (h : Sound l (length mask) words) where
     pub inside : (y x : ℕ) → In l y x → place l y x < length mask
     inside y x p =
-        let n = line-in y p.0 p.1 in
+        let n = line_in y p.0 p.1 in
         let most : l.pitch * line y ≤ l.pitch * (rows l - 1) = mul-le-mul_left l.pitch (omega arith) in
         let long = h.lines (omega arith) in
         let wide = p.2 in
         omega arith
 
-    pub pixel-at : (y x : ℕ) → In l y x
+    pub pixel_at : (y x : ℕ) → In l y x
         → get_or (painted l ds 0 mask) (place l y x) 0 ≡ byte_of l.fill (value ds (pos y) (pos x))
-    pixel-at y x p =
+    pixel_at y x p =
         let near : x < l.pitch = omega (arith, p.2, h.pitched) in
         byte_at_is mask (place l y x) (inside y x p)
         ∙ rw (line_of_is l.pitch (line y) x near, column_of l.pitch (line y) x near)
-        (rw (lt-ltb (line y) (rows l) (line-in y p.0 p.1), lt-ltb x l.width p.2)
+        (rw (lt-ltb (line y) (rows l) (line_in y p.0 p.1), lt-ltb x l.width p.2)
         (ap (λ (r : ℕ). byte_of l.fill (value ds (pos r) (pos x))) (row_back y p.0 p.1)))
 
   -- a byte that is no pixel's

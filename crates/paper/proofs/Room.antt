@@ -28,7 +28,7 @@ use Rattle.paper.specs.Drawing.{pool, fitting, record_of}
 use Rattle.paper.specs.Demands.{places_of, TooMany, RunsOut}
 use Rattle.paper.proofs.Cells.{held_pair}
 use Rattle.paper.proofs.Places.{AllIn, both_in, EachIn, distinct_held}
-use Rattle.paper.proofs.Marks.{AllPassed, cells-by-held, cells-by-in}
+use Rattle.paper.proofs.Marks.{AllPassed, cells_by_held, cells_by_in}
 
 -- ---- the records' lists, joined
 cond_append : (t : Bool) (ds ds' es : List Pair) → cond t (ds ++ es) (ds' ++ es) ≡ cond t ds ds' ++ es
@@ -89,17 +89,17 @@ by_long l p (ms ∷ []) = refl
 by_long l p (ms ∷ next ∷ rest) = omega (arith, by_long l (pen_after p ms) (next ∷ rest))
 
 module _ (l : Label) (cs : List Command) where
-  pub cells-joined : flatten (cells_by l cs) ≡ cells_of l cs
+  pub cells_joined : flatten (cells_by l cs) ≡ cells_of l cs
   unfolding cells_by cells_of
-  cells-joined = go (marks_by l corner corner cs) (one_more l corner corner cs)
+  cells_joined = go (marks_by l corner corner cs) (one_more l corner corner cs)
     where
       go : (mss : List (List Mark)) → length mss ≡ length cs + 1 → flatten (stored_by l lifted mss) ≡ stored l lifted (flatten mss)
       go [] e = absurd (omega arith)
       go (ms ∷ mss) e = by_joined l lifted ms mss
 
-  pub cells-long : length (cells_by l cs) ≡ length cs + 1
+  pub cells_long : length (cells_by l cs) ≡ length cs + 1
   unfolding cells_by
-  cells-long = by_long l lifted (marks_by l corner corner cs) ∙ one_more l corner corner cs
+  cells_long = by_long l lifted (marks_by l corner corner cs) ∙ one_more l corner corner cs
 
 -- ---- how many fit, as the crates below count it
 pub picked : (t : Bool) (i j : ℕ) → (elim t as (λ _. ℕ) [ true ↦ i | false ↦ j ]) ≡ cond t i j
@@ -107,30 +107,30 @@ picked true i j = refl
 picked false i j = refl
 
 module _ (l : Label) (w : l.width ≤ most_pixels) where
-  fits-held : (room : ℕ) (before : List Pair) (each : List (List Pair)) → AllIn l before → EachIn l each
+  fits_held : (room : ℕ) (before : List Pair) (each : List (List Pair)) → AllIn l before → EachIn l each
       → fitting room before each ≡ storing.fitting room (map (held_pair l) before) (map (map (held_pair l)) each)
   unfolding fitting storing.fitting
-  fits-held room before [] h k = refl
-  fits-held room before (ds ∷ rest) h k =
+  fits_held room before [] h k = refl
+  fits_held room before (ds ∷ rest) h k =
       let all = both_in l before ds h k.0 in
       let same : map (held_pair l) (before ++ ds) ≡ map (held_pair l) before ++ map (held_pair l) ds = map-append (held_pair l) before ds in
       let count : distinct (before ++ ds) ≡ held.distinct (map (held_pair l) before ++ map (held_pair l) ds) = distinct_held l (before ++ ds) w all ∙ ap held.distinct same in
       let go : fitting room (before ++ ds) rest ≡ storing.fitting room (map (held_pair l) before ++ map (held_pair l) ds) (map (map (held_pair l)) rest) =
-      fits-held room (before ++ ds) rest all k.1 ∙ ap (λ (log : List Deposit). storing.fitting room log (map (map (held_pair l)) rest)) same in
+      fits_held room (before ++ ds) rest all k.1 ∙ ap (λ (log : List Deposit). storing.fitting room log (map (map (held_pair l)) rest)) same in
       let n = fitting room (before ++ ds) rest in
       let few = ltb room (held.distinct (map (held_pair l) before ++ map (held_pair l) ds)) in
       ap (λ (n' : ℕ). elim (ltb room n') as (λ _. ℕ) [ true ↦ 0 | false ↦ suc n ]) count
       ∙ picked few 0 (suc n)
       ∙ ap (cond few 0) (omega arith)
 
-  pub record-held : (words : ℕ) (cs : List Command) → AllPassed l.transform l.offset cs → record_of words cs l ≡ room_for l words cs
-  record-held words cs h =
-      fits-held (pool l words) [] (cells_by l cs) tt (cells-by-in l cs)
-      ∙ ap (storing.fitting (pool l words) []) (cells-by-held l cs h)
+  pub record_held : (words : ℕ) (cs : List Command) → AllPassed l.transform l.offset cs → record_of words cs l ≡ room_for l words cs
+  record_held words cs h =
+      fits_held (pool l words) [] (cells_by l cs) tt (cells_by_in l cs)
+      ∙ ap (storing.fitting (pool l words) []) (cells_by_held l cs h)
 
   -- ---- a list never has fewer places than its front
-  more-places : (ds es : List Pair) → AllIn l ds → AllIn l es → distinct ds ≤ distinct (ds ++ es)
-  more-places ds es h k =
+  more_places : (ds es : List Pair) → AllIn l ds → AllIn l es → distinct ds ≤ distinct (ds ++ es)
+  more_places ds es h k =
       let one = distinct_held l ds w h in
       let two = distinct_held l (ds ++ es) w (both_in l ds es h k) ∙ ap held.distinct (map-append (held_pair l) ds es) in
       let grows = distinct_mono (map (held_pair l) ds) (map (held_pair l) es) in
@@ -145,7 +145,7 @@ module _ (l : Label) (w : l.width ≤ most_pixels) where
   grow : (each : List (List Pair)) → EachIn l each → (before : List Pair) → AllIn l before → (i j : ℕ) → i ≤ j
       → distinct (before ++ flatten (take i each)) ≤ distinct (before ++ flatten (take j each))
   unfolding flatten
-  grow each k before h zero j le = rw (append-nil before) (more-places before (flatten (take j each)) h (joined_in j each k))
+  grow each k before h zero j le = rw (append-nil before) (more_places before (flatten (take j each)) h (joined_in j each k))
   grow each k before h (suc i) zero le = absurd (omega arith)
   grow [] k before h (suc i) (suc j) le = omega arith
   grow (ds ∷ rest) k before h (suc i) (suc j) le =
@@ -154,15 +154,15 @@ module _ (l : Label) (w : l.width ≤ most_pixels) where
 
 -- ---- as many as fit, and one more
 module _ (room : ℕ) where
-  empty-fits : distinct [] ≤ room
+  empty_fits : distinct [] ≤ room
   unfolding distinct
-  empty-fits = omega arith
+  empty_fits = omega arith
 
-  fit-before : (each : List (List Pair)) (before : List Pair) → distinct before ≤ room
+  fit_before : (each : List (List Pair)) (before : List Pair) → distinct before ≤ room
       → distinct (before ++ flatten (take (fitting room before each) each)) ≤ room
   unfolding flatten fitting
-  fit-before [] before h = rw (append-nil before) h
-  fit-before (ds ∷ rest) before h = go (ltb room (distinct (before ++ ds))) refl (λ f. fit-before rest (before ++ ds) f)
+  fit_before [] before h = rw (append-nil before) h
+  fit_before (ds ∷ rest) before h = go (ltb room (distinct (before ++ ds))) refl (λ f. fit_before rest (before ++ ds) f)
     where
       go : (t : Bool) → ltb room (distinct (before ++ ds)) ≡ t
           → (distinct (before ++ ds) ≤ room → distinct ((before ++ ds) ++ flatten (take (fitting room (before ++ ds) rest) rest)) ≤ room)
@@ -170,11 +170,11 @@ module _ (room : ℕ) where
       go true e more = rw (append-nil before) h
       go false e more = rw (← append_assoc before ds (flatten (take (fitting room (before ++ ds) rest) rest))) (more (ltb-false _ _ e))
 
-  one-over : (each : List (List Pair)) (before : List Pair) → distinct before ≤ room → room < distinct (before ++ flatten each)
+  one_over : (each : List (List Pair)) (before : List Pair) → distinct before ≤ room → room < distinct (before ++ flatten each)
       → (fitting room before each < length each) × (room < distinct (before ++ flatten (take (suc (fitting room before each)) each)))
   unfolding flatten fitting
-  one-over [] before h k = absurd (let z : distinct (before ++ []) ≡ distinct before = ap distinct (append-nil before) in omega arith)
-  one-over (ds ∷ rest) before h k = go (ltb room (distinct (before ++ ds))) refl (λ f. one-over rest (before ++ ds) f (rw (← append_assoc before ds (flatten rest)) at k))
+  one_over [] before h k = absurd (let z : distinct (before ++ []) ≡ distinct before = ap distinct (append-nil before) in omega arith)
+  one_over (ds ∷ rest) before h k = go (ltb room (distinct (before ++ ds))) refl (λ f. one_over rest (before ++ ds) f (rw (← append_assoc before ds (flatten rest)) at k))
     where
       go : (t : Bool) → ltb room (distinct (before ++ ds)) ≡ t
           → (distinct (before ++ ds) ≤ room
@@ -195,25 +195,25 @@ neither i j less more = ⊎_elim
 -- THE RECORD
 module _ (l : Label) (w : l.width ≤ most_pixels) (words : ℕ) (cs : List Command) where
   grows : (i j : ℕ) → i ≤ j → places_of l cs i ≤ places_of l cs j
-  grows i j le = grow l w (cells_by l cs) (cells-by-in l cs) [] tt i j le
+  grows i j le = grow l w (cells_by l cs) (cells_by_in l cs) [] tt i j le
 
   pub named : TooMany l words cs → RunsOut l words cs (record_of words cs l)
   named m =
       let each = cells_by l cs in
-      let none : distinct [] ≤ pool l words = empty-fits (pool l words) in
-      let over = one-over (pool l words) each [] none (rw (cells-joined l cs) m) in
+      let none : distinct [] ≤ pool l words = empty_fits (pool l words) in
+      let over = one_over (pool l words) each [] none (rw (cells_joined l cs) m) in
       let e : suc (record_of words cs l) ≡ record_of words cs l + 1 = omega arith in
-      (omega (arith, over.0, cells-long l cs), fit-before (pool l words) each [] none, rw e at over.1)
+      (omega (arith, over.0, cells_long l cs), fit_before (pool l words) each [] none, rw e at over.1)
 
   pub too_many : (i : ℕ) → RunsOut l words cs i → TooMany l words cs
   too_many i (inside, fits, over) =
       let all : places_of l cs (length (cells_by l cs)) ≡ distinct (cells_of l cs) =
-      ap (λ (dss : List (List Pair)). distinct (flatten dss)) (take-length (cells_by l cs)) ∙ ap distinct (cells-joined l cs) in
-      let less = grows (i + 1) (length (cells_by l cs)) (omega (arith, cells-long l cs)) in
+      ap (λ (dss : List (List Pair)). distinct (flatten dss)) (take-length (cells_by l cs)) ∙ ap distinct (cells_joined l cs) in
+      let less = grows (i + 1) (length (cells_by l cs)) (omega (arith, cells_long l cs)) in
       omega arith
 
   -- and no other
-  pub one-record : (i j : ℕ) → RunsOut l words cs i → RunsOut l words cs j → i ≡ j
-  one-record i j (a, b, c) (d, e, f) = neither i j
+  pub one_record : (i j : ℕ) → RunsOut l words cs i → RunsOut l words cs j → i ≡ j
+  one_record i j (a, b, c) (d, e, f) = neither i j
       (λ h. let g = grows (i + 1) j (omega arith) in omega arith)
       (λ h. let g = grows (j + 1) i (omega arith) in omega arith)

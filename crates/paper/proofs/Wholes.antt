@@ -7,7 +7,7 @@ use native.Mathlib.Omega.{arith}
 use native.Mathlib.Nat.{mul-one, mul_comm, mul_assoc, mul_left_comm, mul-pos, add-mul, mul-sub, mul-le-mul_right, mul-lt-mul_of_pos_right, eq_of_mul-eq-mul_right}
 use borrow.Author.Tests.{lt-ltb, le-ltb}
 use lib.Dec.{T, ltb, lit≤}
-use lib.IntN.{ℤ, pos, negsuc, neg_ℤ, nat_abs, ◌+ℤ◌, ◌*ℤ◌, neg_ℤ-+ℤ, neg_ℤ-neg_ℤ, *ℤ_comm, +ℤ_comm, pos-ne-negsuc}
+use lib.IntN.{ℤ, pos, negsuc, neg_ℤ, nat_abs, ◌+ℤ◌, ◌*ℤ◌, neg_ℤ-+ℤ, neg_ℤ_neg_ℤ, *ℤ_comm, +ℤ_comm, pos-ne-negsuc}
 use lib.Ieee.{Float, nan, inf, fin, binary32, up, down, unlike, round, sum, add, mul, fits}
 use lib.Ieee.Fits.{down_pos}
 use lib.Ieee.Exact.{HasValue}
@@ -71,7 +71,7 @@ signed_times : (s t : Bool) (m n : ℕ) → signed (unlike s t) (m * n) ≡ sign
 signed_times false false m n = refl
 signed_times true false m n = sym (neg_times (pos m) (pos n))
 signed_times false true m n = sym (times_neg m n)
-signed_times true true m n = sym (neg_times (pos m) (neg_ℤ (pos n)) ∙ ap neg_ℤ (times_neg m n) ∙ neg_ℤ-neg_ℤ (pos (m * n)))
+signed_times true true m n = sym (neg_times (pos m) (neg_ℤ (pos n)) ∙ ap neg_ℤ (times_neg m n) ∙ neg_ℤ_neg_ℤ (pos (m * n)))
 
 -- a difference, by the sign of what is taken from
 gap : (m n : ℕ) → n ≤ m → pos (m - n) ≡ pos m +ℤ neg_ℤ (pos n)
@@ -79,7 +79,7 @@ gap m n h = sym (⊖_up m n h) ∙ ⊖_is m n
 
 signed_gap : (s : Bool) (m n : ℕ) → n ≤ m → signed s (m - n) ≡ signed s m +ℤ signed (not s) n
 signed_gap false m n h = gap m n h
-signed_gap true m n h = ap neg_ℤ (gap m n h) ∙ neg_ℤ-+ℤ (pos m) (neg_ℤ (pos n)) ∙ ap (λ (z : ℤ). neg_ℤ (pos m) +ℤ z) (neg_ℤ-neg_ℤ (pos n))
+signed_gap true m n h = ap neg_ℤ (gap m n h) ∙ neg_ℤ-+ℤ (pos m) (neg_ℤ (pos n)) ∙ ap (λ (z : ℤ). neg_ℤ (pos m) +ℤ z) (neg_ℤ_neg_ℤ (pos n))
 
 signed_rest : (s : Bool) (m n : ℕ) → m ≤ n → signed (not s) (n - m) ≡ signed s m +ℤ signed (not s) n
 signed_rest false m n h = signed_gap true n m h ∙ +ℤ_comm (neg_ℤ (pos n)) (pos m)
@@ -97,27 +97,27 @@ times_gap : (m n c : ℕ) → m * c - n * c ≡ (m - n) * c
 times_gap m n c = rw (mul_comm m c, mul_comm n c, mul_comm (m - n) c, mul-sub c m n)
 
 module _ (c : ℕ) (C : 0 < c) (m n : ℕ) (l : m + n ≤ 2 ^ 24) where
-  unlike-is : (s : Bool)
+  unlike_is : (s : Bool)
       → Is (cond (ltb (m * c) (n * c)) (round binary32 (not s) (n * c - m * c) c) (round binary32 (s && ltb (n * c) (m * c)) (m * c - n * c) c))
       (signed s m +ℤ signed (not s) n)
-  unlike-is s = ⊎_elim
+  unlike_is s = ⊎_elim
       (λ h. rw (lt-ltb (m * c) (n * c) (mul-lt-mul_of_pos_right h C), ← signed_rest s m n (omega arith))
       (rounded_is (not s) (n - m) (n * c - m * c) c C (times_gap n m c) (omega arith)))
       (λ h. rw (le-ltb (m * c) (n * c) (mul-le-mul_right c h), ← signed_gap s m n h, ← kept_sign s m n c C h)
       (rounded_is (s && ltb (n * c) (m * c)) (m - n) (m * c - n * c) c C (times_gap m n c) (omega arith)))
       (which m n)
 
-  sum-rounds : (s t : Bool) → Is (sum binary32 s (m * c) t (n * c) c) (signed s m +ℤ signed t n)
+  sum_rounds : (s t : Bool) → Is (sum binary32 s (m * c) t (n * c) c) (signed s m +ℤ signed t n)
   unfolding sum
-  sum-rounds false false = rounded_is false (m + n) (m * c + n * c) c C (sym (add-mul m n c)) l
-  sum-rounds false true = unlike-is false
-  sum-rounds true false = unlike-is true
-  sum-rounds true true = rw (← neg_ℤ-+ℤ (pos m) (pos n)) (rounded_is true (m + n) (m * c + n * c) c C (sym (add-mul m n c)) l)
+  sum_rounds false false = rounded_is false (m + n) (m * c + n * c) c C (sym (add-mul m n c)) l
+  sum_rounds false true = unlike_is false
+  sum_rounds true false = unlike_is true
+  sum_rounds true true = rw (← neg_ℤ-+ℤ (pos m) (pos n)) (rounded_is true (m + n) (m * c + n * c) c C (sym (add-mul m n c)) l)
 
 module _ (s : Bool) (m : ℕ) (e : ℤ) (t : Bool) (n : ℕ) (d : ℤ) (X Y : ℕ) (p : m * up e ≡ X * down e) (q : n * up d ≡ Y * down d) where
-  product-of : X * Y ≤ 2 ^ 24 → Is (fin s m e ⊗ fin t n d) (signed s X *ℤ signed t Y)
+  product_of : X * Y ≤ 2 ^ 24 → Is (fin s m e ⊗ fin t n d) (signed s X *ℤ signed t Y)
   unfolding mul
-  product-of l =
+  product_of l =
       let c = down e * down d in
       let h : m * up e * (n * up d) ≡ X * Y * c = rw (p, q) (simp (mul_assoc, mul_left_comm)) in
       rw (← signed_times s t X Y) (rounded_is (unlike s t) (X * Y) (m * up e * (n * up d)) c (mul-pos (down_pos e) (down_pos d)) h l)
@@ -129,7 +129,7 @@ module _ (s : Bool) (m : ℕ) (e : ℤ) (t : Bool) (n : ℕ) (d : ℤ) (X Y : �
       let f : m * up e * down d ≡ X * c = ap (λ (k : ℕ). k * down d) p ∙ mul_assoc X (down e) (down d) in
       let g : n * up d * down e ≡ Y * c = ap (λ (k : ℕ). k * down e) q ∙ mul_assoc Y (down d) (down e) ∙ ap (λ (k : ℕ). Y * k) (mul_comm (down d) (down e)) in
       subst (λ (v : Float). Is v (signed s X +ℤ signed t Y)) (sym (ap₂ (λ (i j : ℕ). sum binary32 s i t j c) f g))
-      (sum-rounds c (mul-pos (down_pos e) (down_pos d)) X Y l s t)
+      (sum_rounds c (mul-pos (down_pos e) (down_pos d)) X Y l s t)
 
 pub size_of : (s : Bool) (n : ℕ) (z : ℤ) → signed s n ≡ z → nat_abs z ≡ n
 size_of s n z h = sym (ap nat_abs h) ∙ abs_signed s n
@@ -142,7 +142,7 @@ product_is (fin s m e) nan x y p q l = absurd q
 product_is (fin s m e) (inf t) x y p q l = absurd q
 product_is (fin s m e) (fin t n d) x y (X, a, f) (Y, b, g) l =
     subst (λ (z : ℤ). Is (fin s m e ⊗ fin t n d) z) (ap₂ (λ (i j : ℤ). i *ℤ j) f g)
-    (product-of s m e t n d X Y a b (rw (size_of s X x f, size_of t Y y g) at l))
+    (product_of s m e t n d X Y a b (rw (size_of s X x f, size_of t Y y g) at l))
 
 pub sum_is : (u v : Float) (x y : ℤ) → Is u x → Is v y → nat_abs x + nat_abs y ≤ 2 ^ 24 → Is (u ⊕ v) (x +ℤ y)
 unfolding Is

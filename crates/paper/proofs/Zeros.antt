@@ -53,39 +53,39 @@ and_true false = refl
 and_true true = refl
 
 module _ (c : ℕ) (C : 0 < c) (a b : ℕ) where
-  unlike-second : (s r : Bool) → b ≡ 0 → 0 < a
+  unlike_second : (s r : Bool) → b ≡ 0 → 0 < a
       → cond (ltb a b) (round binary32 r (b - a) c) (round binary32 (s && ltb b a) (a - b) c) ≡ round binary32 s a c
-  unlike-second s r o h =
+  unlike_second s r o h =
       let e : a - b ≡ a = omega arith in
       rw (le-ltb a b (omega arith), lt-ltb b a (omega arith), e, and_true s)
 
-  second-zero : (s t : Bool) → b ≡ 0 → 0 < a → sum binary32 s a t b c ≡ round binary32 s a c
+  second_zero : (s t : Bool) → b ≡ 0 → 0 < a → sum binary32 s a t b c ≡ round binary32 s a c
   unfolding sum
-  second-zero false false o h = ap (λ (k : ℕ). round binary32 false k c) (omega arith)
-  second-zero false true o h = unlike-second false true o h
-  second-zero true false o h = unlike-second true false o h
-  second-zero true true o h = ap (λ (k : ℕ). round binary32 true k c) (omega arith)
+  second_zero false false o h = ap (λ (k : ℕ). round binary32 false k c) (omega arith)
+  second_zero false true o h = unlike_second false true o h
+  second_zero true false o h = unlike_second true false o h
+  second_zero true true o h = ap (λ (k : ℕ). round binary32 true k c) (omega arith)
 
-  unlike-first : (v : Float) (r : Bool) → a ≡ 0 → 0 < b → cond (ltb a b) (round binary32 r (b - a) c) v ≡ round binary32 r b c
-  unlike-first v r o h =
+  unlike_first : (v : Float) (r : Bool) → a ≡ 0 → 0 < b → cond (ltb a b) (round binary32 r (b - a) c) v ≡ round binary32 r b c
+  unlike_first v r o h =
       let e : b - a ≡ b = omega arith in
       rw (lt-ltb a b (omega arith), e)
 
-  first-zero : (s t : Bool) → a ≡ 0 → 0 < b → sum binary32 s a t b c ≡ round binary32 t b c
+  first_zero : (s t : Bool) → a ≡ 0 → 0 < b → sum binary32 s a t b c ≡ round binary32 t b c
   unfolding sum
-  first-zero false false o h = ap (λ (k : ℕ). round binary32 false k c) (omega arith)
-  first-zero false true o h = unlike-first _ true o h
-  first-zero true false o h = unlike-first _ false o h
-  first-zero true true o h = ap (λ (k : ℕ). round binary32 true k c) (omega arith)
+  first_zero false false o h = ap (λ (k : ℕ). round binary32 false k c) (omega arith)
+  first_zero false true o h = unlike_first _ true o h
+  first_zero true false o h = unlike_first _ false o h
+  first_zero true true o h = ap (λ (k : ℕ). round binary32 true k c) (omega arith)
 
-  unlike-both : (s r : Bool) → a ≡ 0 → b ≡ 0 → Zero (cond (ltb a b) (round binary32 r (b - a) c) (round binary32 (s && ltb b a) (a - b) c))
-  unlike-both s r o h = rw (le-ltb a b (omega arith)) (s && ltb b a, zero_round (s && ltb b a) (a - b) c C (omega arith))
+  unlike_both : (s r : Bool) → a ≡ 0 → b ≡ 0 → Zero (cond (ltb a b) (round binary32 r (b - a) c) (round binary32 (s && ltb b a) (a - b) c))
+  unlike_both s r o h = rw (le-ltb a b (omega arith)) (s && ltb b a, zero_round (s && ltb b a) (a - b) c C (omega arith))
 
   both_zero : (s t : Bool) → a ≡ 0 → b ≡ 0 → Zero (sum binary32 s a t b c)
   unfolding sum
   both_zero false false o h = (false, zero_round false (a + b) c C (omega arith))
-  both_zero false true o h = unlike-both false true o h
-  both_zero true false o h = unlike-both true false o h
+  both_zero false true o h = unlike_both false true o h
+  both_zero true false o h = unlike_both true false o h
   both_zero true true o h = (true, zero_round true (a + b) c C (omega arith))
 
 pub right_zero : (v : Float) (s t : Bool) → Same (v ⊕ fin s 0 (pos 0)) (v ⊕ fin t 0 (pos 0))
@@ -96,7 +96,7 @@ right_zero (fin r m e) s t =
     let C : 0 < down e * 1 = mul-pos (down_pos e) (lit≤ tt) in
     let o = zero-mul (down e) in
     ⊎_elim
-    (λ h. inl (second-zero _ C _ _ r s o h ∙ sym (second-zero _ C _ _ r t o h)))
+    (λ h. inl (second_zero _ C _ _ r s o h ∙ sym (second_zero _ C _ _ r t o h)))
     (λ h. inr (zero_of _ (both_zero _ C _ _ r s (omega arith) o), zero_of _ (both_zero _ C _ _ r t (omega arith) o)))
     (which 0 (m * up e * 1))
 
@@ -108,7 +108,7 @@ left_zero (fin r m e) s t =
     let C : 0 < 1 * down e = mul-pos (lit≤ tt) (down_pos e) in
     let o = zero-mul (down e) in
     ⊎_elim
-    (λ h. inl (first-zero _ C _ _ s r o h ∙ sym (first-zero _ C _ _ t r o h)))
+    (λ h. inl (first_zero _ C _ _ s r o h ∙ sym (first_zero _ C _ _ t r o h)))
     (λ h. inr (zero_of _ (both_zero _ C _ _ s r o (omega arith)), zero_of _ (both_zero _ C _ _ t r o (omega arith))))
     (which 0 (m * up e * 1))
 

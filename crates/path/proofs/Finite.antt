@@ -40,29 +40,29 @@ module _ (t : Transform) where
   joined : (first && (second && third)) ≡ finite_transform t
   joined = in_pairs (finite t.xx) (finite t.xy) (finite t.yx) (finite t.yy) (finite t.x) (finite t.y)
 
-  pub third-left : first ≡ true → second ≡ true → third ≡ finite_transform t
-  third-left p q = last_left first second third p q ∙ joined
+  pub third_left : first ≡ true → second ≡ true → third ≡ finite_transform t
+  third_left p q = last_left first second third p q ∙ joined
 
-  pub second-bad : first ≡ true → second ≡ false → false ≡ finite_transform t
-  second-bad p q = second_fails first second third p q ∙ joined
+  pub second_bad : first ≡ true → second ≡ false → false ≡ finite_transform t
+  second_bad p q = second_fails first second third p q ∙ joined
 
-  pub first-bad : first ≡ false → false ≡ finite_transform t
-  first-bad p = first_fails first second third p ∙ joined
+  pub first_bad : first ≡ false → false ≡ finite_transform t
+  first_bad p = first_fails first second third p ∙ joined
 
 module _ (t : Transform) (o : Point) (n : ℕ) where
-  pub bad-transform : finite_transform t ≡ false → Faulty NotFinite ≡ inputs_of t o n
+  pub bad_transform : finite_transform t ≡ false → Faulty NotFinite ≡ inputs_of t o n
   unfolding inputs_of
-  bad-transform e = rw e
+  bad_transform e = rw e
 
-  pub bad-offset : finite_transform t ≡ true → finite_point o ≡ false → Faulty NotFinite ≡ inputs_of t o n
+  pub bad_offset : finite_transform t ≡ true → finite_point o ≡ false → Faulty NotFinite ≡ inputs_of t o n
   unfolding inputs_of
-  bad-offset e g = rw (e, g)
+  bad_offset e g = rw (e, g)
 
   module _ (e : finite_transform t ≡ true) (g : finite_point o ≡ true) where
     pub too_long : most_bytes < n → Faulty Long ≡ inputs_of t o n
     unfolding inputs_of
     too_long h = rw (e, g, lt-ltb most_bytes n h)
 
-    pub all-well : n ≤ most_bytes → Fine ≡ inputs_of t o n
+    pub all_well : n ≤ most_bytes → Fine ≡ inputs_of t o n
     unfolding inputs_of
-    all-well h = rw (e, g, le-ltb most_bytes n h)
+    all_well h = rw (e, g, le-ltb most_bytes n h)

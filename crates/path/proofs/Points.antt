@@ -31,23 +31,23 @@ few_of r n e h = rw e at h
 
 module _ (t : Transform) (o : Point) where
   -- ---- one list of points behind another
-  before-both : (a b c : Bool) → (a && (b && c)) ≡ ((a && b) && c)
-  before-both true b c = refl
-  before-both false b c = refl
+  before_both : (a b c : Bool) → (a && (b && c)) ≡ ((a && b) && c)
+  before_both true b c = refl
+  before_both false b c = refl
 
   all_pass_is : (ps qs : List Point) → all_pass t o (ps ++ qs) ≡ (all_pass t o ps && all_pass t o qs)
   unfolding all_pass
   all_pass_is [] qs = refl
-  all_pass_is (p ∷ ps) qs = rw (all_pass_is ps qs) (before-both (passed (spot_at t o p)) (all_pass t o ps) (all_pass t o qs))
+  all_pass_is (p ∷ ps) qs = rw (all_pass_is ps qs) (before_both (passed (spot_at t o p)) (all_pass t o ps) (all_pass t o qs))
 
-  all-cuts : (ps qs : List Point) → cuts_at t o (ps ++ qs) ≡ cuts_at t o ps + cuts_at t o qs
+  all_cuts : (ps qs : List Point) → cuts_at t o (ps ++ qs) ≡ cuts_at t o ps + cuts_at t o qs
   unfolding cuts_at
-  all-cuts [] qs = omega arith
-  all-cuts (p ∷ ps) qs = omega (arith, all-cuts ps qs)
+  all_cuts [] qs = omega arith
+  all_cuts (p ∷ ps) qs = omega (arith, all_cuts ps qs)
 
   -- they are ruled one after the other
-  pub both-points : (ps qs : List Point) → both_ruled (points_ruled t o ps) (points_ruled t o qs) ≡ points_ruled t o (ps ++ qs)
-  both-points ps qs = rw (all_pass_is ps qs, all-cuts ps qs) (go (all_pass t o ps) (all_pass t o qs))
+  pub both_points : (ps qs : List Point) → both_ruled (points_ruled t o ps) (points_ruled t o qs) ≡ points_ruled t o (ps ++ qs)
+  both_points ps qs = rw (all_pass_is ps qs, all_cuts ps qs) (go (all_pass t o ps) (all_pass t o qs))
     where
       m : ℕ
       m = cuts_at t o ps
@@ -61,41 +61,41 @@ module _ (t : Transform) (o : Point) where
       go false b = refl
 
   -- each has two coordinates
-  cuts-few : (ps : List Point) → cuts_at t o ps ≤ 2 * length ps
+  cuts_few : (ps : List Point) → cuts_at t o ps ≤ 2 * length ps
   unfolding cuts_at
-  cuts-few [] = omega arith
-  cuts-few (p ∷ ps) = omega (arith, two_parts (place_of t o p), cuts-few ps)
+  cuts_few [] = omega arith
+  cuts_few (p ∷ ps) = omega (arith, two_parts (place_of t o p), cuts_few ps)
 
-  pub few-points : (ps : List Point) → length ps ≤ 3 → Few (points_ruled t o ps)
-  few-points ps h = go (all_pass t o ps)
+  pub few_points : (ps : List Point) → length ps ≤ 3 → Few (points_ruled t o ps)
+  few_points ps h = go (all_pass t o ps)
     where
       go : (b : Bool) → Few (ruled (cond b Fine (Faulty Outside)) (cuts_at t o ps))
-      go true = omega (arith, cuts-few ps)
+      go true = omega (arith, cuts_few ps)
       go false = tt
 
   -- and so has every command few that are cut
-  pub few-cuts : (k : Command) → cuts_at t o (points_of k) ≤ 6
-  few-cuts (MoveTo p) = omega (arith, cuts-few (p ∷ []))
-  few-cuts (LineTo p) = omega (arith, cuts-few (p ∷ []))
-  few-cuts (QuadTo c p) = omega (arith, cuts-few (c ∷ p ∷ []))
-  few-cuts (CurveTo c d p) = omega (arith, cuts-few (c ∷ d ∷ p ∷ []))
-  few-cuts Close = omega (arith, cuts-few [])
+  pub few_cuts : (k : Command) → cuts_at t o (points_of k) ≤ 6
+  few_cuts (MoveTo p) = omega (arith, cuts_few (p ∷ []))
+  few_cuts (LineTo p) = omega (arith, cuts_few (p ∷ []))
+  few_cuts (QuadTo c p) = omega (arith, cuts_few (c ∷ p ∷ []))
+  few_cuts (CurveTo c d p) = omega (arith, cuts_few (c ∷ d ∷ p ∷ []))
+  few_cuts Close = omega (arith, cuts_few [])
 
   -- ---- no point, and one
-  pub no-points : ruling.Cuts 0 ≡ points_ruled t o []
+  pub no_points : ruling.Cuts 0 ≡ points_ruled t o []
   unfolding all_pass cuts_at
-  no-points = refl
+  no_points = refl
 
-  pub point-passes : (p : Point) (q : FixedPoint) (n : ℕ) → spot_at t o p ≡ spot.At q n → ruling.Cuts n ≡ points_ruled t o (p ∷ [])
+  pub point_passes : (p : Point) (q : FixedPoint) (n : ℕ) → spot_at t o p ≡ spot.At q n → ruling.Cuts n ≡ points_ruled t o (p ∷ [])
   unfolding all_pass cuts_at
-  point-passes p q n e =
+  point_passes p q n e =
       let c : n ≡ cut_parts (place_of t o p) = unfold spot_at in spot_cuts (place_of t o p) q n e in
       let z : n ≡ cut_parts (place_of t o p) + 0 = omega arith in
       rw e (ap ruling.Cuts z)
 
-  pub point-strays : (p : Point) → spot_at t o p ≡ spot.Outside → ruling.Faulty Outside ≡ points_ruled t o (p ∷ [])
+  pub point_strays : (p : Point) → spot_at t o p ≡ spot.Outside → ruling.Faulty Outside ≡ points_ruled t o (p ∷ [])
   unfolding all_pass
-  point-strays p e = rw e
+  point_strays p e = rw e
 
   module _ (i : ℕ) (closed : Bool) (k : Command) where
     pub no_move : i ≡ 0 → is_move k ≡ false → ruling.Faulty First ≡ ruled (verdict_of t o i closed k) (cuts_at t o (points_of k))
@@ -106,26 +106,26 @@ module _ (t : Transform) (o : Point) where
     pub record Begins : Type 0 where
       pub fair : (eqb i 0 && not (is_move k)) ≡ false
 
-    pub begins-move : i ≡ 0 → is_move k ≡ true → Begins
-    begins-move z m = record { fair = rw (eq-eqb i 0 z, m) }
+    pub begins_move : i ≡ 0 → is_move k ≡ true → Begins
+    begins_move z m = record { fair = rw (eq-eqb i 0 z, m) }
 
-    pub begins-later : (i ≡ 0 → ⊥) → Begins
-    begins-later z = record { fair = rw (ne_eqb i 0 z) }
+    pub begins_later : (i ≡ 0 → ⊥) → Begins
+    begins_later z = record { fair = rw (ne_eqb i 0 z) }
 
-    pub draws-on : Begins → closed ≡ true → draws k ≡ true → ruling.Faulty AfterClose ≡ ruled (verdict_of t o i closed k) (cuts_at t o (points_of k))
+    pub draws_on : Begins → closed ≡ true → draws k ≡ true → ruling.Faulty AfterClose ≡ ruled (verdict_of t o i closed k) (cuts_at t o (points_of k))
     unfolding verdict_of
-    draws-on b e d = rw (b.fair, e, d)
+    draws_on b e d = rw (b.fair, e, d)
 
     -- nor does 18
     pub record Follows : Type 0 where
       pub begins : Begins
       pub apart : (closed && draws k) ≡ false
 
-    pub follows-open : Begins → closed ≡ false → Follows
-    follows-open b e = record { begins = b; apart = rw e }
+    pub follows_open : Begins → closed ≡ false → Follows
+    follows_open b e = record { begins = b; apart = rw e }
 
-    pub follows-close : Begins → closed ≡ true → draws k ≡ false → Follows
-    follows-close b e d = record { begins = b; apart = rw (e, d) }
+    pub follows_close : Begins → closed ≡ true → draws k ≡ false → Follows
+    follows_close b e d = record { begins = b; apart = rw (e, d) }
 
     -- what is left is the point rule
     pub follows : Follows → points_ruled t o (points_of k) ≡ ruled (verdict_of t o i closed k) (cuts_at t o (points_of k))

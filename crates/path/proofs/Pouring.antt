@@ -32,14 +32,14 @@ module _ (width first end : ℕ) (ws : List ℕ) (z : Fits width first end (leng
   same_width = omega arith
 
   module _ (ws' : List ℕ) (cap : ℕ) (p : cap ≡ pool_of rows (length ws)) (e : ws' ≡ replicate rows 0 ++ drop rows ws) where
-    cleared-long : length ws' ≡ length ws
-    cleared-long =
+    cleared_long : length ws' ≡ length ws
+    cleared_long =
         let h = z.heads in
         ap length e ∙ simp (length-append, length-replicate, length-drop) (omega arith)
 
     pub ready : Ready (frame_of width first end) cap ws'
     ready =
-        let long = cleared-long in
+        let long = cleared_long in
         let fits = pool_fits rows (length ws) z.heads in
         record {
           right = omega arith;
@@ -58,7 +58,7 @@ module _ (width first end : ℕ) (ws : List ℕ) (z : Fits width first end (leng
     poured t o s ws'' r d =
         record {
           within = rw (← p) d.within;
-          same = d.same ∙ cleared-long;
+          same = d.same ∙ cleared_long;
           stored = λ cs a.
               rw (← p)
               (moved ws'' cap _ _ r same_rows same_width

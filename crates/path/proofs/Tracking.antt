@@ -16,16 +16,16 @@ use Rattle.command.specs.declared.Command.{Command}
 use Rattle.list.specs.declared.Reason.{Reason}
 use Rattle.list.specs.declared.Step.TheVariants as step
 use Rattle.list.specs.Records.{step_at}
-use Rattle.list.proofs.Next.{next-in}
+use Rattle.list.proofs.Next.{next_in_is}
 use Rattle.pen.specs.declared.Frame.{Frame}
 use Rattle.pen.specs.Marks.{Mark, Stand, nowhere, after, left, whole, seen, deposits}
 use Rattle.pen.specs.Laws.{left_append, whole_append, seen_append}
 use Rattle.pen.specs.Drawing.{rows, width, Holding, Added, Drew, lifted, stand_of}
-use Rattle.pen.proofs.Adding.{drew-none, drew-then}
+use Rattle.pen.proofs.Adding.{drew_none, drew_then}
 use Rattle.raster.specs.declared.Track.{Track}
 use Rattle.raster.specs.Path.{begun, stroke_marks, marks_from, marks, deposits_of, end_of}
 use Rattle.raster.specs.Tracing.{ReachAll, Sound, Stroked}
-use Rattle.raster.proofs.Told.{still_sound, marks-end, marks-stroke}
+use Rattle.raster.proofs.Told.{still_sound, marks_end, marks_stroke}
 use Rattle.line.specs.Lines.{line_marks}
 use Rattle.path.specs.declared.Pool.TheVariants.{Cells, Full}
 use Rattle.path.specs.Reading.{path, read_list}
@@ -33,17 +33,17 @@ use Rattle.path.specs.Strokes.{stroke_of, strokes_of}
 use Rattle.path.specs.Storing.{stored_from, stored_by, fitting, pool_at, Within, Filled}
 use Rattle.path.specs.Pouring.{Traced}
 use Rattle.path.proofs.Points.{corner_near}
-use Rattle.path.proofs.Walk.{Unread, all-unread, Onward, at-the-end, never-refused, onward}
+use Rattle.path.proofs.Walk.{Unread, all_unread, Onward, at_the_end, never_refused, onward}
 
 -- ---- how many fit: a list that does not, and one that does
 module _ (cap : ℕ) (log ds : List Deposit) (each : List (List Deposit)) where
-  none-fits : cap < distinct (log ++ ds) → fitting cap log (ds ∷ each) ≡ 0
+  none_fits : cap < distinct (log ++ ds) → fitting cap log (ds ∷ each) ≡ 0
   unfolding fitting
-  none-fits h = rw (lt-ltb _ _ h)
+  none_fits h = rw (lt-ltb _ _ h)
 
-  one-fits : distinct (log ++ ds) ≤ cap → fitting cap log (ds ∷ each) ≡ 1 + fitting cap (log ++ ds) each
+  one_fits : distinct (log ++ ds) ≤ cap → fitting cap log (ds ∷ each) ≡ 1 + fitting cap (log ++ ds) each
   unfolding fitting
-  one-fits h = rw (le-ltb _ _ h)
+  one_fits h = rw (le-ltb _ _ h)
 
 -- a pool that holds a log holds no more places than it has
 few : (ws : List ℕ) (f : Frame) (cap : ℕ) (log : List Deposit) (n : ℕ) → n ≤ cap → Holding f cap ws (kept.Cells n) log → distinct log ≤ cap
@@ -73,13 +73,13 @@ module _ (f : Frame) (cap : ℕ) (ws₀ : List ℕ) (t : Transform) (o : Point) 
     pub inside : at ≤ length s
     pub going : (cs : List Command) → read_list t o s ≡ path cs → Holding f cap ws₀ (kept.Cells 0) [] → Going cs ws track at n
 
-  begun-going : (cs : List Command) → read_list t o s ≡ path cs → Going cs ws₀ begun 0 0
+  begun_going : (cs : List Command) → read_list t o s ≡ path cs → Going cs ws₀ begun 0 0
   unfolding marks lifted stored_by left seen
-  begun-going cs e = record {
+  begun_going cs e = record {
     rest = cs;
-    unread = all-unread t o s cs e;
+    unread = all_unread t o s cs e;
     done = [];
-    drew = drew-none f cap (omega arith);
+    drew = drew_none f cap (omega arith);
     all = refl;
     fits = same_none;
   }
@@ -87,18 +87,18 @@ module _ (f : Frame) (cap : ℕ) (ws₀ : List ℕ) (t : Transform) (o : Point) 
       same_none : fitting cap [] (stored_by f (strokes_of t o cs)) ≡ 0 + fitting cap (Stored []) (Left begun cs)
       same_none = let e : fitting cap [] (stored_by f (strokes_of t o cs)) ≡ fitting cap (Stored []) (Left begun cs) = refl in omega arith
 
-  begun-tracking : Tracking ws₀ begun 0 0
+  begun_tracking : Tracking ws₀ begun 0 0
   unfolding lifted
-  begun-tracking = record {
+  begun_tracking = record {
     same = refl;
     sound = record { within = omega arith; near = corner_near; begun = corner_near };
     few = omega arith;
     inside = omega arith;
-    going = λ cs e h. begun-going cs e;
+    going = λ cs e h. begun_going cs e;
   }
 
   pub started : (track : Track) → track ≡ begun → Tracking ws₀ track 0 0
-  started track e = rw e begun-tracking
+  started track e = rw e begun_tracking
 
   -- what is done is the front of all that is stored
   front : (done ms : List Mark) (cs : List Command) → done ++ ms ≡ marks f (strokes_of t o cs)
@@ -126,7 +126,7 @@ module _ (f : Frame) (cap : ℕ) (ws₀ : List ℕ) (t : Transform) (o : Point) 
         unfolding strokes_of
         all_more =
             rw (append_assoc h.done own _, d.goes, d.starts)
-            (rw (marks-stroke f track.at track.start (stroke_of t o k) (strokes_of t o on.behind)) at (rw on.splits at h.all))
+            (rw (marks_stroke f track.at track.start (stroke_of t o k) (strokes_of t o on.behind)) at (rw on.splits at h.all))
 
         stored_more : Stored (h.done ++ own) ≡ Stored h.done ++ gives
         unfolding lifted
@@ -135,9 +135,9 @@ module _ (f : Frame) (cap : ℕ) (ws₀ : List ℕ) (t : Transform) (o : Point) 
             ∙ seen_append f (left nowhere h.done) (left (after nowhere h.done) own)
             ∙ ap (λ (st : Stand). Stored h.done ++ seen f (left st own)) (sym h.drew.stands)
 
-        left-more : Left track h.rest ≡ gives ∷ Left track' on.behind
+        left_more : Left track h.rest ≡ gives ∷ Left track' on.behind
         unfolding strokes_of stored_from
-        left-more = ap (Left track) on.splits ∙ rw (d.goes, d.starts, d.drew.stands)
+        left_more = ap (Left track) on.splits ∙ rw (d.goes, d.starts, d.drew.stands)
 
         held : Holding f cap ws₀ (kept.Cells 0) [] → Holding f cap ws' track'.pen.kept (Stored h.done ++ gives)
         unfolding lifted
@@ -149,21 +149,21 @@ module _ (f : Frame) (cap : ℕ) (ws₀ : List ℕ) (t : Transform) (o : Point) 
           rest = on.behind;
           unread = on.unread;
           done = h.done ++ own;
-          drew = drew-then f cap h.drew d.drew;
+          drew = drew_then f cap h.drew d.drew;
           all = all_more;
           fits =
               let room : distinct (Stored h.done ++ gives) ≤ cap = few ws' f cap (Stored h.done ++ gives) m (rw c at d.drew.within) (rw c at (held H)) in
               let e : fitting cap (Stored h.done) (Left track h.rest) ≡ 1 + fitting cap (Stored (h.done ++ own)) (Left track' on.behind) =
-              rw (left-more, stored_more) (one-fits cap (Stored h.done) gives (Left track' on.behind) room) in
+              rw (left_more, stored_more) (one_fits cap (Stored h.done) gives (Left track' on.behind) room) in
               omega (arith, h.fits);
         }
 
         -- or not
-        full-here : Holding f cap ws₀ (kept.Cells 0) [] → track'.pen.kept ≡ kept.Full
+        full_here : Holding f cap ws₀ (kept.Cells 0) [] → track'.pen.kept ≡ kept.Full
             → Filled ws' (rows f) (width f) cap (deposits_of f (strokes_of t o cs)) (stored_by f (strokes_of t o cs)) (Full n)
-        full-here H c =
+        full_here H c =
             let over : cap < distinct (Stored h.done ++ gives) = rw c at (held H) in
-            let e : fitting cap (Stored h.done) (Left track h.rest) ≡ 0 = rw left-more (none-fits cap (Stored h.done) gives (Left track' on.behind) over) in
+            let e : fitting cap (Stored h.done) (Left track h.rest) ≡ 0 = rw left_more (none_fits cap (Stored h.done) gives (Left track' on.behind) over) in
             let grows = distinct_mono (Stored h.done ++ gives) (seen f (whole (after nowhere (h.done ++ own)) (marks_from f track'.at track'.start (strokes_of t o on.behind)))) in (
               rw (front (h.done ++ own) _ cs all_more, stored_more) (omega arith),
               omega (arith, h.fits),
@@ -172,7 +172,7 @@ module _ (f : Frame) (cap : ℕ) (ws₀ : List ℕ) (t : Transform) (o : Point) 
       module _ (c : Kept) (told : track'.pen.kept ≡ c) where
         pub goes_on : (m : ℕ) → c ≡ kept.Cells m → ReachAll (stroke_of t o k) → Tracking ws' track' next (n + 1)
         goes_on m p r =
-            let b = next-in s at k next e in
+            let b = next_in_is s at k next e in
             record {
               same = d.drew.added.same ∙ g.same;
               sound = still_sound g.sound r d;
@@ -185,7 +185,7 @@ module _ (f : Frame) (cap : ℕ) (ws₀ : List ℕ) (t : Transform) (o : Point) 
         stops p = record {
           within = omega (arith, g.few, g.inside);
           same = d.drew.added.same ∙ g.same;
-          stored = λ cs a H. full-here cs (g.going cs a H) H (told ∙ p);
+          stored = λ cs a H. full_here cs (g.going cs a H) H (told ∙ p);
         }
 
     -- ---- the end
@@ -195,45 +195,45 @@ module _ (f : Frame) (cap : ℕ) (ws₀ : List ℕ) (t : Transform) (o : Point) 
 
       module _ (cs : List Command) (e : step_at s at ≡ step.End) (h : Going cs ws track at n) where
         abbrev none : h.rest ≡ []
-        none = at-the-end t o s at h.rest h.unread e
+        none = at_the_end t o s at h.rest h.unread e
 
-        stored-all : deposits_of f (strokes_of t o cs) ≡ Stored h.done ++ last
+        stored_all : deposits_of f (strokes_of t o cs) ≡ Stored h.done ++ last
         unfolding strokes_of lifted
-        stored-all =
-            let all : h.done ++ line_marks f track.at track.start ≡ marks f (strokes_of t o cs) = rw (marks-end f track.at track.start) at (rw none at h.all) in
+        stored_all =
+            let all : h.done ++ line_marks f track.at track.start ≡ marks f (strokes_of t o cs) = rw (marks_end f track.at track.start) at (rw none at h.all) in
             front h.done (line_marks f track.at track.start) cs all
             ∙ ap (λ (st : Stand). Stored h.done ++ seen f (whole st (line_marks f track.at track.start))) (sym h.drew.stands)
 
-        left-last : Left track h.rest ≡ last ∷ []
+        left_last : Left track h.rest ≡ last ∷ []
         unfolding strokes_of stored_from
-        left-last = rw none
+        left_last = rw none
 
         by_answer : (k : Kept) → Holding f cap ws' k (Stored h.done ++ last)
             → Filled ws' (rows f) (width f) cap (deposits_of f (strokes_of t o cs)) (stored_by f (strokes_of t o cs)) (pool_at k n)
-        by_answer (kept.Cells m) H = rw stored-all H
+        by_answer (kept.Cells m) H = rw stored_all H
         by_answer kept.Full over =
-            let e : fitting cap (Stored h.done) (Left track h.rest) ≡ 0 = rw left-last (none-fits cap (Stored h.done) last [] over) in
-            (rw stored-all over, omega (arith, h.fits))
+            let e : fitting cap (Stored h.done) (Left track h.rest) ≡ 0 = rw left_last (none_fits cap (Stored h.done) last [] over) in
+            (rw stored_all over, omega (arith, h.fits))
 
         ended : Holding f cap ws₀ (kept.Cells 0) []
             → Filled ws' (rows f) (width f) cap (deposits_of f (strokes_of t o cs)) (stored_by f (strokes_of t o cs)) (pool_at r n)
         unfolding lifted
         ended H = by_answer r (a.adds (Stored h.done) (h.drew.added.adds [] H))
 
-      told-within : (k : Kept) → store.Within cap k → Within cap (length s) (pool_at k n)
-      told-within (kept.Cells m) w = w
-      told-within kept.Full w = omega (arith, g.few, g.inside)
+      told_within : (k : Kept) → store.Within cap k → Within cap (length s) (pool_at k n)
+      told_within (kept.Cells m) w = w
+      told_within kept.Full w = omega (arith, g.few, g.inside)
 
       pub traced : step_at s at ≡ step.End → Traced f cap ws₀ ws' t o s (pool_at r n)
       traced e = record {
-        within = told-within r w;
+        within = told_within r w;
         same = a.same ∙ g.same;
         stored = λ cs l H. ended cs e (g.going cs l H) H;
       }
 
       pub untraced : (why : Reason) → step_at s at ≡ step.Refused why → Traced f cap ws₀ ws' t o s (pool_at r n)
       untraced why e = record {
-        within = told-within r w;
+        within = told_within r w;
         same = a.same ∙ g.same;
-        stored = λ cs l H. let h = g.going cs l H in absurd (never-refused t o s at h.rest h.unread why e);
+        stored = λ cs l H. let h = g.going cs l H in absurd (never_refused t o s at h.rest h.unread why e);
       }

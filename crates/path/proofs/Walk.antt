@@ -13,7 +13,7 @@ use Rattle.command.specs.Commands.{is_close, points_of}
 use Rattle.list.specs.declared.Reason.{Reason}
 use Rattle.list.specs.declared.Step.TheVariants as step
 use Rattle.list.specs.Records.{step_at}
-use Rattle.list.proofs.Next.{next-in}
+use Rattle.list.proofs.Next.{next_in_is}
 use Rattle.path.specs.declared.Refusal.{Refusal}
 use Rattle.path.specs.declared.Judged.{Judged}
 use Rattle.path.specs.declared.Judged.TheVariants.{Records, Refused}
@@ -22,7 +22,7 @@ use Rattle.path.specs.declared.Verdict.TheVariants.{Fine, Faulty}
 use Rattle.path.specs.declared.Ruling.TheVariants as ruling
 use Rattle.path.specs.Refusals.{refusal_of}
 use Rattle.path.specs.Reading.{Read, refused, path, before, judged, cuts_at, cuts_in, after_close, verdict_of, ruled, read_step, read_from, read_list, judged_of}
-use Rattle.path.proofs.Points.{few-cuts}
+use Rattle.path.proofs.Points.{few_cuts}
 
 -- ---- a list that was read: its commands are its own, and it was not refused
 pub same_commands : {xs ys : List Command} → path xs ≡ path ys → xs ≡ ys
@@ -46,15 +46,15 @@ module _ (t : Transform) (o : Point) where
   tallied n m (path cs) = Records (n + length cs) (m + cuts_in t o cs)
   tallied n m (refused w i) = Refused w i
 
-  tallied-none : (r : Read) → tallied 0 0 r ≡ judged_of t o r
+  tallied_none : (r : Read) → tallied 0 0 r ≡ judged_of t o r
   unfolding judged_of
-  tallied-none (path cs) = ap₂ Records (omega arith) (omega arith)
-  tallied-none (refused w i) = refl
+  tallied_none (path cs) = ap₂ Records (omega arith) (omega arith)
+  tallied_none (refused w i) = refl
 
-  tallied-one : (n m : ℕ) (c : Command) (r : Read) → tallied n m (before c r) ≡ tallied (n + 1) (m + cuts_at t o (points_of c)) r
+  tallied_one : (n m : ℕ) (c : Command) (r : Read) → tallied n m (before c r) ≡ tallied (n + 1) (m + cuts_at t o (points_of c)) r
   unfolding cuts_in
-  tallied-one n m c (path cs) = ap₂ Records (omega arith) (omega arith)
-  tallied-one n m c (refused w i) = refl
+  tallied_one n m c (path cs) = ap₂ Records (omega arith) (omega arith)
+  tallied_one n m c (refused w i) = refl
 
 module _ (t : Transform) (o : Point) (s : List ℕ) where
   -- one step, where there is fuel
@@ -75,7 +75,7 @@ module _ (t : Transform) (o : Point) (s : List ℕ) where
     pub enough : length s < fuel + at
     pub inside : at ≤ length s
     pub few : n ≤ at
-    pub few-cut : m ≤ 6 * n
+    pub few_cut : m ≤ 6 * n
     pub same : tallied t o n m (read_from fuel t o s at n last) ≡ judged_of t o (read_list t o s)
 
   pub started : Going 0 0 0 false
@@ -87,8 +87,8 @@ module _ (t : Transform) (o : Point) (s : List ℕ) where
     enough = omega arith;
     inside = omega arith;
     few = omega arith;
-    few-cut = omega arith;
-    same = tallied-none t o (read_from (length s + 1) t o s 0 0 none);
+    few_cut = omega arith;
+    same = tallied_none t o (read_from (length s + 1) t o s 0 0 none);
   }
 
   module _ (at n m : ℕ) {closed : Bool} (g : Going at n m closed) where
@@ -119,13 +119,13 @@ module _ (t : Transform) (o : Point) (s : List ℕ) where
       unfolding read_step
       goes v = rw (e, rw g.close at v) at step_is
 
-      pub few-more : (m' : ℕ) → ruling.Cuts m' ≡ ruled (verdict_of t o n closed c) (cuts_at t o (points_of c)) → m' ≤ 6
-      few-more m' v = rw (ruled_fine (verdict_of t o n closed c) (cuts_at t o (points_of c)) m' v).1 (few-cuts t o c)
+      pub few_more : (m' : ℕ) → ruling.Cuts m' ≡ ruled (verdict_of t o n closed c) (cuts_at t o (points_of c)) → m' ≤ 6
+      few_more m' v = rw (ruled_fine (verdict_of t o n closed c) (cuts_at t o (points_of c)) m' v).1 (few_cuts t o c)
 
       pub goes_on : {closed' : Bool} (m' : ℕ) → closed' ≡ is_close c → ruling.Cuts m' ≡ ruled (verdict_of t o n closed c) (cuts_at t o (points_of c)) → Going next (n + 1) (m + m') closed'
       unfolding rest
       goes_on m' k v =
-          let b = next-in s at c next e in
+          let b = next_in_is s at c next e in
           let f = ruled_fine (verdict_of t o n closed c) (cuts_at t o (points_of c)) m' v in
           record {
             fuel = g.fuel - 1;
@@ -134,8 +134,8 @@ module _ (t : Transform) (o : Point) (s : List ℕ) where
             enough = omega (arith, b.past, b.inside);
             inside = b.inside;
             few = omega (arith, b.past);
-            few-cut = omega (arith, g.few-cut, few-more m' v);
-            same = rw f.1 (sym (tallied-one t o n m c (rest next c)) ∙ goes f.0);
+            few_cut = omega (arith, g.few_cut, few_more m' v);
+            same = rw f.1 (sym (tallied_one t o n m c (rest next c)) ∙ goes f.0);
           }
 
   -- ---- an accepted list: what is left of it are commands
@@ -150,9 +150,9 @@ module _ (t : Transform) (o : Point) (s : List ℕ) where
     pub reads : read_from fuel t o s at index last ≡ path rest
 
   -- at first all of them
-  pub all-unread : (cs : List Command) → read_list t o s ≡ path cs → Unread 0 cs
+  pub all_unread : (cs : List Command) → read_list t o s ≡ path cs → Unread 0 cs
   unfolding read_list
-  all-unread cs e = record { fuel = length s + 1; index = 0; last = none; enough = omega arith; inside = omega arith; reads = e }
+  all_unread cs e = record { fuel = length s + 1; index = 0; last = none; enough = omega arith; inside = omega arith; reads = e }
 
   -- a command, and the commands behind it
   pub record Onward (c : Command) (next : ℕ) (cs : List Command) : Type 0 where
@@ -168,19 +168,19 @@ module _ (t : Transform) (o : Point) (s : List ℕ) where
     unfolding later
     here = sym (one u.fuel at u.index u.last (omega (arith, u.enough, u.inside))) ∙ u.reads
 
-    pub at-the-end : step_at s at ≡ step.End → cs ≡ []
+    pub at_the_end : step_at s at ≡ step.End → cs ≡ []
     unfolding read_step
-    at-the-end e = sym (same_commands (rw e at here))
+    at_the_end e = sym (same_commands (rw e at here))
 
-    pub never-refused : (w : Reason) → step_at s at ≡ step.Refused w → ⊥
+    pub never_refused : (w : Reason) → step_at s at ≡ step.Refused w → ⊥
     unfolding read_step
-    never-refused w e = refused_not_path (rw e at here)
+    never_refused w e = refused_not_path (rw e at here)
 
     module _ (c : Command) (next : ℕ) (e : step_at s at ≡ step.Command c next) where
       split : (r : Read) → later next c ≡ r → before c r ≡ path cs → Onward c next cs
       unfolding later
       split (path bs) h p =
-          let b = next-in s at c next e in
+          let b = next_in_is s at c next e in
           record {
             behind = bs;
             splits = cc;
@@ -188,10 +188,10 @@ module _ (t : Transform) (o : Point) (s : List ℕ) where
           }
       split (refused w k) h p = absurd (refused_not_path p)
 
-      judge-split : (v : Verdict) → judged v u.index c (later next c) ≡ path cs → Onward c next cs
-      judge-split Fine p = split (later next c) refl p
-      judge-split (Faulty w) p = absurd (refused_not_path p)
+      judge_split : (v : Verdict) → judged v u.index c (later next c) ≡ path cs → Onward c next cs
+      judge_split Fine p = split (later next c) refl p
+      judge_split (Faulty w) p = absurd (refused_not_path p)
 
       pub onward : Onward c next cs
       unfolding read_step
-      onward = judge-split (verdict_of t o u.index (after_close u.last) c) (rw e at here)
+      onward = judge_split (verdict_of t o u.index (after_close u.last) c) (rw e at here)

@@ -16,12 +16,12 @@ module _ (f : Frame) (cap : ℕ) where
   pub unseen : (ws : List ℕ) (k : Kept) (ds : List Pair) → seen f ds ≡ [] → Added f cap ws ws k k ds
   unseen ws k ds e = record { same = refl; adds = λ log h. rw (e, append-nil) h }
 
-  pub none-added : (ws : List ℕ) (k : Kept) → Added f cap ws ws k k []
+  pub none_added : (ws : List ℕ) (k : Kept) → Added f cap ws ws k k []
   unfolding seen
-  none-added ws k = unseen ws k [] refl
+  none_added ws k = unseen ws k [] refl
 
-  pub full-added : (ws : List ℕ) (ds : List Pair) → Added f cap ws ws Full Full ds
-  full-added ws ds = record { same = refl; adds = λ log h. let g = distinct_mono log (seen f ds) in omega arith }
+  pub full_added : (ws : List ℕ) (ds : List Pair) → Added f cap ws ws Full Full ds
+  full_added ws ds = record { same = refl; adds = λ log h. let g = distinct_mono log (seen f ds) in omega arith }
 
   pub added_then : {ws ws' ws'' : List ℕ} {k k' k'' : Kept} {ds es : List Pair} → Added f cap ws ws' k k' ds → Added f cap ws' ws'' k' k'' es
       → Added f cap ws ws'' k k'' (ds ++ es)
@@ -32,56 +32,56 @@ module _ (f : Frame) (cap : ℕ) where
       }
 
   module _ (c r v a : ℕ) where
-    too-right : f.wide ≤ c → seen f (pair_of c r v a ∷ []) ≡ []
+    too_right : f.wide ≤ c → seen f (pair_of c r v a ∷ []) ≡ []
     unfolding seen
-    too-right h = simp (le-ltb _ _ h)
+    too_right h = simp (le-ltb _ _ h)
 
     too_high : c < f.wide → r < f.first → seen f (pair_of c r v a ∷ []) ≡ []
     unfolding seen
     too_high h g = simp (lt-ltb _ _ h, lt-leb _ _ g)
 
-    too-low : c < f.wide → f.first ≤ r → f.end ≤ r → seen f (pair_of c r v a ∷ []) ≡ []
+    too_low : c < f.wide → f.first ≤ r → f.end ≤ r → seen f (pair_of c r v a ∷ []) ≡ []
     unfolding seen
-    too-low h g e = simp (lt-ltb _ _ h, le-leb _ _ g, le-ltb _ _ e)
+    too_low h g e = simp (lt-ltb _ _ h, le-leb _ _ g, le-ltb _ _ e)
 
     within : c < f.wide → f.first ≤ r → r < f.end → seen f (pair_of c r v a ∷ []) ≡ (placed f (pair_of c r v a) ∷ [])
     unfolding seen
     within h g e = simp (lt-ltb _ _ h, le-leb _ _ g, lt-ltb _ _ e)
 
-    pub right-added : (ws : List ℕ) (k : Kept) → f.wide ≤ c → Added f cap ws ws k k (pair_of c r v a ∷ [])
-    right-added ws k h = unseen ws k _ (too-right h)
+    pub right_added : (ws : List ℕ) (k : Kept) → f.wide ≤ c → Added f cap ws ws k k (pair_of c r v a ∷ [])
+    right_added ws k h = unseen ws k _ (too_right h)
 
-    pub high-added : (ws : List ℕ) (k : Kept) → c < f.wide → r < f.first → Added f cap ws ws k k (pair_of c r v a ∷ [])
-    high-added ws k h g = unseen ws k _ (too_high h g)
+    pub high_added : (ws : List ℕ) (k : Kept) → c < f.wide → r < f.first → Added f cap ws ws k k (pair_of c r v a ∷ [])
+    high_added ws k h g = unseen ws k _ (too_high h g)
 
-    pub low-added : (ws : List ℕ) (k : Kept) → c < f.wide → f.first ≤ r → f.end ≤ r → Added f cap ws ws k k (pair_of c r v a ∷ [])
-    low-added ws k h g e = unseen ws k _ (too-low h g e)
+    pub low_added : (ws : List ℕ) (k : Kept) → c < f.wide → f.first ≤ r → f.end ≤ r → Added f cap ws ws k k (pair_of c r v a ∷ [])
+    low_added ws k h g e = unseen ws k _ (too_low h g e)
 
     -- a pair that the store has taken, as `store` promises it
-    pub store-added : (ws ws' : List ℕ) (n : ℕ) (k' : Kept) (col : ℕ) → col ≡ max c 8191 - 8191 → 8192 ≤ f.wide → c < f.wide → f.first ≤ r → r < f.end
+    pub store_added : (ws ws' : List ℕ) (n : ℕ) (k' : Kept) (col : ℕ) → col ≡ max c 8191 - 8191 → 8192 ≤ f.wide → c < f.wide → f.first ≤ r → r < f.end
         → Storing ws ws' (rows f) cap n (r - f.first) col v a k' → Added f cap ws ws' (Cells n) k' (pair_of c r v a ∷ [])
-    store-added ws ws' n k' col p wide h g e s =
+    store_added ws ws' n k' col p wide h g e s =
         record { same = s.long; adds = λ log k. rw (within h g e, ← p) (s.told (width f) log (omega arith) k) }
 
   -- ---- the same of marks
 
-  pub drew-then : {ws ws' ws'' : List ℕ} {p p' p'' : Pen} {ms ns : List Mark} → Drew f cap ws ws' p p' ms → Drew f cap ws' ws'' p' p'' ns → Drew f cap ws ws'' p p'' (ms ++ ns)
-  drew-then {p = p} {p' = p'} {ms = ms} {ns = ns} a b =
+  pub drew_then : {ws ws' ws'' : List ℕ} {p p' p'' : Pen} {ms ns : List Mark} → Drew f cap ws ws' p p' ms → Drew f cap ws' ws'' p' p'' ns → Drew f cap ws ws'' p p'' (ms ++ ns)
+  drew_then {p = p} {p' = p'} {ms = ms} {ns = ns} a b =
       record {
         within = b.within;
         stands = b.stands ∙ ap (λ s. after s ns) a.stands ∙ sym (after_append (stand_of p) ms ns);
         added = rw (left_append (stand_of p) ms ns, ← a.stands) (added_then a.added b.added);
       }
 
-  pub drew-none : {ws : List ℕ} {p : Pen} → Within cap p.kept → Drew f cap ws ws p p []
+  pub drew_none : {ws : List ℕ} {p : Pen} → Within cap p.kept → Drew f cap ws ws p p []
   unfolding after left
-  drew-none {ws = ws} {p = p} h = record { within = h; stands = refl; added = none-added ws p.kept }
+  drew_none {ws = ws} {p = p} h = record { within = h; stands = refl; added = none_added ws p.kept }
 
   -- a pen that `add` hands back
-  pub drew-give : {ws : List ℕ} {p p' : Pen} (v a : ℕ) → Within cap p.kept → p'.kept ≡ p.kept → stand_of p' ≡ gave (stand_of p) v a → Drew f cap ws ws p p' (give v a ∷ [])
+  pub drew_give : {ws : List ℕ} {p p' : Pen} (v a : ℕ) → Within cap p.kept → p'.kept ≡ p.kept → stand_of p' ≡ gave (stand_of p) v a → Drew f cap ws ws p p' (give v a ∷ [])
   unfolding after left
-  drew-give {ws = ws} {p = p} {p' = p'} v a h e s =
-      record { within = rw e h; stands = s; added = rw e (none-added ws p.kept) }
+  drew_give {ws = ws} {p = p} {p' = p'} v a h e s =
+      record { within = rw e h; stands = s; added = rw e (none_added ws p.kept) }
 
   -- the same pool, by another name
   pub renamed : {ws ws' : List ℕ} {k k₁ k' : Kept} {ds : List Pair} → k ≡ k₁ → Added f cap ws ws' k₁ k' ds → Added f cap ws ws' k k' ds
@@ -96,5 +96,5 @@ module _ (f : Frame) (cap : ℕ) where
       record { fits = omega arith; used = used; few_rows = omega arith; few_cells = r.small }
 
   -- the words are as ready as they were
-  pub still-ready : {ws ws' : List ℕ} → Ready f cap ws → length ws' ≡ length ws → Ready f cap ws'
-  still-ready r e = record { right = r.right; narrow = r.narrow; ordered = r.ordered; few = r.few; small = r.small; fits = omega arith }
+  pub still_ready : {ws ws' : List ℕ} → Ready f cap ws → length ws' ≡ length ws → Ready f cap ws'
+  still_ready r e = record { right = r.right; narrow = r.narrow; ordered = r.ordered; few = r.few; small = r.small; fits = omega arith }

@@ -10,23 +10,23 @@ turn false e = ap not e
 
 -- the code asks whether the pen is not in a cell
 module _ (p : Pen) where
-  pub up-last : not p.down ≡ true → last_of (stand_of p) ≡ []
-  up-last e = rw (turn p.down e)
+  pub up_last : not p.down ≡ true → last_of (stand_of p) ≡ []
+  up_last e = rw (turn p.down e)
 
-  pub down-last : not p.down ≡ false → last_of (stand_of p) ≡ pair_of p.col p.row p.cover p.area ∷ []
-  down-last e = rw (turn p.down e)
+  pub down_last : not p.down ≡ false → last_of (stand_of p) ≡ pair_of p.col p.row p.cover p.area ∷ []
+  down_last e = rw (turn p.down e)
 
-  pub up-leaves : not p.down ≡ true → leaving (stand_of p) ≡ []
-  up-leaves e = rw (turn p.down e)
+  pub up_leaves : not p.down ≡ true → leaving (stand_of p) ≡ []
+  up_leaves e = rw (turn p.down e)
 
-  pub zero-leaves : not p.down ≡ false → p.cover ≡ 0 → p.area ≡ 0 → leaving (stand_of p) ≡ []
-  zero-leaves e v a = rw (turn p.down e, v, a)
+  pub zero_leaves : not p.down ≡ false → p.cover ≡ 0 → p.area ≡ 0 → leaving (stand_of p) ≡ []
+  zero_leaves e v a = rw (turn p.down e, v, a)
 
-  pub cover-leaves : not p.down ≡ false → (p.cover ≡ 0 → ⊥) → leaving (stand_of p) ≡ pair_of p.col p.row p.cover p.area ∷ []
-  cover-leaves e v = rw (turn p.down e, ne_eqb _ 0 v)
+  pub cover_leaves : not p.down ≡ false → (p.cover ≡ 0 → ⊥) → leaving (stand_of p) ≡ pair_of p.col p.row p.cover p.area ∷ []
+  cover_leaves e v = rw (turn p.down e, ne_eqb _ 0 v)
 
-  pub area-leaves : not p.down ≡ false → p.cover ≡ 0 → (p.area ≡ 0 → ⊥) → leaving (stand_of p) ≡ pair_of p.col p.row p.cover p.area ∷ []
-  area-leaves e v a = simp (turn p.down e, eq-eqb _ 0 v, ne_eqb _ 0 a)
+  pub area_leaves : not p.down ≡ false → p.cover ≡ 0 → (p.area ≡ 0 → ⊥) → leaving (stand_of p) ≡ pair_of p.col p.row p.cover p.area ∷ []
+  area_leaves e v a = simp (turn p.down e, eq-eqb _ 0 v, ne_eqb _ 0 a)
 
 -- entering a cell leaves what it leaves
 pub left_enter : (s : Stand) (c r : ℕ) → left s (enter c r ∷ []) ≡ leaving s

@@ -36,56 +36,56 @@ pub data FineFrom (t : Transform) (o : Point) : ℕ → Option Command → List 
 
 module _ (t : Transform) (o : Point) where
   -- a record, where what is read behind it is fine
-  fine-judged : (i : ℕ) (p : Option Command) (c : Command) (v : Verdict) → verdict_of t o i (after_close p) c ≡ v → (r : Read) → ((cs : List Command) → r ≡ path cs → FineFrom t o (i + 1) (some c) cs)
+  fine_judged : (i : ℕ) (p : Option Command) (c : Command) (v : Verdict) → verdict_of t o i (after_close p) c ≡ v → (r : Read) → ((cs : List Command) → r ≡ path cs → FineFrom t o (i + 1) (some c) cs)
       → (cs : List Command) → judged v i c r ≡ path cs → FineFrom t o i p cs
-  fine-judged i p c Fine v (path bs) h cs e = subst (FineFrom t o i p) (same_commands e) (more v (h bs refl))
-  fine-judged i p c Fine v (refused w k) h cs e = absurd (refused_not_path e)
-  fine-judged i p c (Faulty w) v r h cs e = absurd (refused_not_path e)
+  fine_judged i p c Fine v (path bs) h cs e = subst (FineFrom t o i p) (same_commands e) (more v (h bs refl))
+  fine_judged i p c Fine v (refused w k) h cs e = absurd (refused_not_path e)
+  fine_judged i p c (Faulty w) v r h cs e = absurd (refused_not_path e)
 
-  fine-step : (i : ℕ) (p : Option Command) (x : Step) (rest : ℕ → Command → Read) → ((next : ℕ) (c : Command) (cs : List Command) → rest next c ≡ path cs → FineFrom t o (i + 1) (some c) cs)
+  fine_step : (i : ℕ) (p : Option Command) (x : Step) (rest : ℕ → Command → Read) → ((next : ℕ) (c : Command) (cs : List Command) → rest next c ≡ path cs → FineFrom t o (i + 1) (some c) cs)
       → (cs : List Command) → read_step t o i p x rest ≡ path cs → FineFrom t o i p cs
   unfolding read_step
-  fine-step i p step.End rest h cs e = subst (FineFrom t o i p) (same_commands e) end
-  fine-step i p (step.Refused w) rest h cs e = absurd (refused_not_path e)
-  fine-step i p (step.Command c next) rest h cs e = fine-judged i p c (verdict_of t o i (after_close p) c) refl (rest next c) (h next c) cs e
+  fine_step i p step.End rest h cs e = subst (FineFrom t o i p) (same_commands e) end
+  fine_step i p (step.Refused w) rest h cs e = absurd (refused_not_path e)
+  fine_step i p (step.Command c next) rest h cs e = fine_judged i p c (verdict_of t o i (after_close p) c) refl (rest next c) (h next c) cs e
 
-  fine-from : (s : List ℕ) (f at i : ℕ) (p : Option Command) (cs : List Command) → read_from f t o s at i p ≡ path cs → FineFrom t o i p cs
+  fine_from : (s : List ℕ) (f at i : ℕ) (p : Option Command) (cs : List Command) → read_from f t o s at i p ≡ path cs → FineFrom t o i p cs
   unfolding read_from
-  fine-from s zero at i p cs e = subst (FineFrom t o i p) (same_commands e) end
-  fine-from s (suc f) at i p cs e = fine-step i p (step_at s at) (λ next c. read_from f t o s next (i + 1) (some c)) (λ next c bs. fine-from s f next (i + 1) (some c) bs) cs e
+  fine_from s zero at i p cs e = subst (FineFrom t o i p) (same_commands e) end
+  fine_from s (suc f) at i p cs e = fine_step i p (step_at s at) (λ next c. read_from f t o s next (i + 1) (some c)) (λ next c bs. fine_from s f next (i + 1) (some c) bs) cs e
 
-  pub all-fine : (s : List ℕ) (cs : List Command) → read_list t o s ≡ path cs → FineFrom t o 0 none cs
+  pub all_fine : (s : List ℕ) (cs : List Command) → read_list t o s ≡ path cs → FineFrom t o 0 none cs
   unfolding read_list
-  all-fine s cs e = fine-from s (length s + 1) 0 0 none cs e
+  all_fine s cs e = fine_from s (length s + 1) 0 0 none cs e
 
   -- 11 did not refuse
-  first-moves : (closed : Bool) (c : Command) → verdict_of t o 0 closed c ≡ Fine → is_move c ≡ true
+  first_moves : (closed : Bool) (c : Command) → verdict_of t o 0 closed c ≡ Fine → is_move c ≡ true
   unfolding verdict_of
-  first-moves closed c e = go (is_move c) e
+  first_moves closed c e = go (is_move c) e
     where
       go : (b : Bool) → cond (eqb 0 0 && not b) (Faulty First) (cond (closed && draws c) (Faulty AfterClose) (cond (all_pass t o (points_of c)) Fine (Faulty Outside))) ≡ Fine → b ≡ true
       go true h = refl
       go false h = absurd (let z : ◌≡◌ {A = ℕ} 0 1 = cc in omega arith)
 
-  move-begins : (c : Command) (cs : List Command) → is_move c ≡ true → Begins t c cs
+  move_begins : (c : Command) (cs : List Command) → is_move c ≡ true → Begins t c cs
   unfolding path_points
-  move-begins (MoveTo p) cs e = record { point = p; first = refl; points = refl }
-  move-begins (LineTo p) cs e = absurd (let z : ◌≡◌ {A = ℕ} 0 1 = cc in omega arith)
-  move-begins (QuadTo c p) cs e = absurd (let z : ◌≡◌ {A = ℕ} 0 1 = cc in omega arith)
-  move-begins (CurveTo c d p) cs e = absurd (let z : ◌≡◌ {A = ℕ} 0 1 = cc in omega arith)
-  move-begins Close cs e = absurd (let z : ◌≡◌ {A = ℕ} 0 1 = cc in omega arith)
+  move_begins (MoveTo p) cs e = record { point = p; first = refl; points = refl }
+  move_begins (LineTo p) cs e = absurd (let z : ◌≡◌ {A = ℕ} 0 1 = cc in omega arith)
+  move_begins (QuadTo c p) cs e = absurd (let z : ◌≡◌ {A = ℕ} 0 1 = cc in omega arith)
+  move_begins (CurveTo c d p) cs e = absurd (let z : ◌≡◌ {A = ℕ} 0 1 = cc in omega arith)
+  move_begins Close cs e = absurd (let z : ◌≡◌ {A = ℕ} 0 1 = cc in omega arith)
 
-  fine-begins : (c : Command) (cs : List Command) → FineFrom t o 0 none (c ∷ cs) → Begins t c cs
-  fine-begins c cs (more v h) = move-begins c cs (first-moves false c v)
+  fine_begins : (c : Command) (cs : List Command) → FineFrom t o 0 none (c ∷ cs) → Begins t c cs
+  fine_begins c cs (more v h) = move_begins c cs (first_moves false c v)
 
   -- an accepted list that is not empty has a first point
   pub begins : (s : List ℕ) (c : Command) (cs : List Command) → read_list t o s ≡ path (c ∷ cs) → Begins t c cs
-  begins s c cs e = fine-begins c cs (all-fine s (c ∷ cs) e)
+  begins s c cs e = fine_begins c cs (all_fine s (c ∷ cs) e)
 
   -- 12 did not refuse
-  pub points-pass : (i : ℕ) (closed : Bool) (c : Command) → verdict_of t o i closed c ≡ Fine → all_pass t o (points_of c) ≡ true
+  pub points_pass : (i : ℕ) (closed : Bool) (c : Command) → verdict_of t o i closed c ≡ Fine → all_pass t o (points_of c) ≡ true
   unfolding verdict_of
-  points-pass i closed c e = go (eqb i 0 && not (is_move c)) (closed && draws c) (all_pass t o (points_of c)) e
+  points_pass i closed c e = go (eqb i 0 && not (is_move c)) (closed && draws c) (all_pass t o (points_of c)) e
     where
       go : (a d b : Bool) → cond a (Faulty First) (cond d (Faulty AfterClose) (cond b Fine (Faulty Outside))) ≡ Fine → b ≡ true
       go false false true h = refl

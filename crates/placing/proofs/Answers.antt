@@ -29,7 +29,7 @@ use Rattle.placing.specs.declared.Boxed.TheVariants as boxed
 use Rattle.placing.specs.declared.Laid.TheVariants as laid
 use Rattle.placing.specs.Placing.{unless_faulty, read_checked, nowhere, path_box, bounds_of, laid_box, laid_path, laid_of}
 use Rattle.placing.specs.Measuring.{Boxes, Lies}
-use Rattle.placing.proofs.Near.{accepted-lies}
+use Rattle.placing.proofs.Near.{accepted_lies}
 use Rattle.placing.proofs.Offset.{empty_lies}
 
 module _ (t : Transform) (o : Point) (s : List ℕ) where
@@ -43,13 +43,13 @@ module _ (t : Transform) (o : Point) (s : List ℕ) where
       go false true h k = absurd (let z : ◌≡◌ {A = ℕ} 0 1 = cc in omega arith)
       go true b h k = absurd (let z : ◌≡◌ {A = ℕ} 0 1 = cc in omega arith)
 
-  pub checked-fine : inputs_of t o (length s) ≡ Fine → judged_of t o (read_list t o s) ≡ judged_of t o (read_checked t o s)
+  pub checked_fine : inputs_of t o (length s) ≡ Fine → judged_of t o (read_list t o s) ≡ judged_of t o (read_checked t o s)
   unfolding read_checked
-  checked-fine e = rw e
+  checked_fine e = rw e
 
-  pub checked-faulty : (w : Refusal) → inputs_of t o (length s) ≡ Faulty w → Refused w 0 ≡ judged_of t o (read_checked t o s)
+  pub checked_faulty : (w : Refusal) → inputs_of t o (length s) ≡ Faulty w → Refused w 0 ≡ judged_of t o (read_checked t o s)
   unfolding read_checked judged_of
-  checked-faulty w e = rw e
+  checked_faulty w e = rw e
 
   -- ---- accepted
   pub record Accepted (n m : ℕ) : Type 0 where
@@ -92,9 +92,9 @@ module _ (t : Transform) (s : List ℕ) where
       let a = accepted t nowhere s n m h in
       rw (a.checked, k.boxes nowhere a.cs a.reads)
 
-  pub boxed-away : (w : Refusal) (i : ℕ) → Refused w i ≡ judged_of t nowhere (read_checked t nowhere s) → boxed.Refused w i ≡ bounds_of t s
+  pub boxed_away : (w : Refusal) (i : ℕ) → Refused w i ≡ judged_of t nowhere (read_checked t nowhere s) → boxed.Refused w i ≡ bounds_of t s
   unfolding bounds_of
-  boxed-away w i h = rw (turned t nowhere s w i h)
+  boxed_away w i h = rw (turned t nowhere s w i h)
 
 -- ---- placement
 near_both : (a b : Bool) (x y : Placed) → a ≡ true → b ≡ true → pick_placed (a && b) x y ≡ x
@@ -102,11 +102,11 @@ near_both a b x y p q = rw (p, q)
 
 module _ (g : Origin) (o : Point) (b : Bounds) (l : Lies o b) where
   -- geometry's placement is never outside
-  pub placed-near : placed_of g o b ≡ placed.At (negated (shifted o b.min)) (placement_of g (shifted o b.min) (shifted o b.max))
-  placed-near = near_both (within (shifted o b.min)) (within (shifted o b.max)) _ _ l.low l.high
+  pub placed_near : placed_of g o b ≡ placed.At (negated (shifted o b.min)) (placement_of g (shifted o b.min) (shifted o b.max))
+  placed_near = near_both (within (shifted o b.min)) (within (shifted o b.max)) _ _ l.low l.high
 
   parts : (f : Point) (p : Placement) → placed_of g o b ≡ placed.At f p → placed.At f p ≡ placed.At (negated (shifted o b.min)) (placement_of g (shifted o b.min) (shifted o b.max))
-  parts f p e = sym e ∙ placed-near
+  parts f p e = sym e ∙ placed_near
 
   pub lays : (f : Point) (p : Placement) (m : ℕ) → placed_of g o b ≡ placed.At f p → laid.At f p m ≡ laid_box g o b m
   unfolding laid_box
@@ -115,8 +115,8 @@ module _ (g : Origin) (o : Point) (b : Bounds) (l : Lies o b) where
       go : {f₁ f₂ : Point} {p₁ p₂ : Placement} → placed.At f₁ p₁ ≡ placed.At f₂ p₂ → laid.At f₁ p₁ m ≡ laid.At f₂ p₂ m
       go h = cc
 
-  pub never-outside : placed_of g o b ≡ placed.Outside → ⊥
-  never-outside e = clash (sym e ∙ placed-near)
+  pub never_outside : placed_of g o b ≡ placed.Outside → ⊥
+  never_outside e = clash (sym e ∙ placed_near)
     where
       clash : {f : Point} {p : Placement} → placed.Outside ≡ placed.At f p → ⊥
       clash h = let z : ◌≡◌ {A = ℕ} 0 1 = cc in omega arith
@@ -133,23 +133,23 @@ offset_passed o n h = record { allowed = λ z. h }
 
 module _ (t : Transform) (o : Point) (s : List ℕ) where
   -- an accepted list's box lies near: an empty one's by its offset, which passed
-  path-lies : (cs : List Command) → read_list t o s ≡ path cs → (length cs ≡ 0 → passed (spot_of o) ≡ true) → Lies o (path_box t cs)
-  path-lies [] r f = empty_lies t o (f refl)
-  path-lies (c ∷ cs) r f = accepted-lies t o s c cs r
+  path_lies : (cs : List Command) → read_list t o s ≡ path cs → (length cs ≡ 0 → passed (spot_of o) ≡ true) → Lies o (path_box t cs)
+  path_lies [] r f = empty_lies t o (f refl)
+  path_lies (c ∷ cs) r f = accepted_lies t o s c cs r
 
-  pub box-lies : (n m : ℕ) → Records n m ≡ judged_of t o (read_checked t o s) → Allowed o n → (b : Bounds) → Boxes t s b → Lies o b
-  box-lies n m h ok b k =
+  pub box_lies : (n m : ℕ) → Records n m ≡ judged_of t o (read_checked t o s) → Allowed o n → (b : Bounds) → Boxes t s b → Lies o b
+  box_lies n m h ok b k =
       let a = accepted t o s n m h in
-      rw (k.boxes o a.cs a.reads) (path-lies a.cs a.reads (λ z. ok.allowed (a.count ∙ z)))
+      rw (k.boxes o a.cs a.reads) (path_lies a.cs a.reads (λ z. ok.allowed (a.count ∙ z)))
 
   -- so geometry's placement of an accepted list is never outside
-  pub accepted-placed : (g : Origin) (c : Command) (cs : List Command) → read_list t o s ≡ path (c ∷ cs) → placed_of g o (path_box t (c ∷ cs)) ≡ placed.Outside → ⊥
-  accepted-placed g c cs e = never-outside g o (path_box t (c ∷ cs)) (accepted-lies t o s c cs e)
+  pub accepted_placed : (g : Origin) (c : Command) (cs : List Command) → read_list t o s ≡ path (c ∷ cs) → placed_of g o (path_box t (c ∷ cs)) ≡ placed.Outside → ⊥
+  accepted_placed g c cs e = never_outside g o (path_box t (c ∷ cs)) (accepted_lies t o s c cs e)
 
 module _ (g : Origin) (t : Transform) (o : Point) (s : List ℕ) where
-  pub laid-away : (w : Refusal) (i : ℕ) → Refused w i ≡ judged_of t o (read_checked t o s) → laid.Refused w i ≡ laid_of g t o s
+  pub laid_away : (w : Refusal) (i : ℕ) → Refused w i ≡ judged_of t o (read_checked t o s) → laid.Refused w i ≡ laid_of g t o s
   unfolding laid_of
-  laid-away w i h = rw (turned t o s w i h)
+  laid_away w i h = rw (turned t o s w i h)
 
   module _ (n m : ℕ) (h : Records n m ≡ judged_of t o (read_checked t o s)) where
     laid_is : (cs : List Command) → read_checked t o s ≡ path cs → laid_path g t o cs ≡ laid_of g t o s
@@ -157,23 +157,23 @@ module _ (g : Origin) (t : Transform) (o : Point) (s : List ℕ) where
     laid_is cs e = rw e
 
     -- no record: the offset alone must pass
-    none-refused : (cs : List Command) → length cs ≡ 0 → passed (spot_of o) ≡ false → laid.Refused Outside 0 ≡ laid_path g t o cs
+    none_refused : (cs : List Command) → length cs ≡ 0 → passed (spot_of o) ≡ false → laid.Refused Outside 0 ≡ laid_path g t o cs
     unfolding laid_path
-    none-refused [] z f = rw f
-    none-refused (c ∷ cs) z f = absurd (omega arith)
+    none_refused [] z f = rw f
+    none_refused (c ∷ cs) z f = absurd (omega arith)
 
-    pub offset-refused : n ≡ 0 → passed (spot_of o) ≡ false → laid.Refused Outside 0 ≡ laid_of g t o s
-    offset-refused z f =
+    pub offset_refused : n ≡ 0 → passed (spot_of o) ≡ false → laid.Refused Outside 0 ≡ laid_of g t o s
+    offset_refused z f =
         let a = accepted t o s n m h in
-        none-refused a.cs (omega (arith, a.count)) f ∙ laid_is a.cs a.checked
+        none_refused a.cs (omega (arith, a.count)) f ∙ laid_is a.cs a.checked
 
     module _ (ok : Allowed o n) (b : Bounds) (k : Boxes t s b) where
-      path-laid : (cs : List Command) → (length cs ≡ 0 → passed (spot_of o) ≡ true) → laid_box g o (path_box t cs) (cuts_in t o cs) ≡ laid_path g t o cs
+      path_laid : (cs : List Command) → (length cs ≡ 0 → passed (spot_of o) ≡ true) → laid_box g o (path_box t cs) (cuts_in t o cs) ≡ laid_path g t o cs
       unfolding laid_path
-      path-laid [] f = rw (f refl)
-      path-laid (c ∷ cs) f = refl
+      path_laid [] f = rw (f refl)
+      path_laid (c ∷ cs) f = refl
 
-      pub laid-at : laid_box g o b m ≡ laid_of g t o s
-      laid-at =
+      pub laid_at : laid_box g o b m ≡ laid_of g t o s
+      laid_at =
           let a = accepted t o s n m h in
-          ap₂ (laid_box g o) (k.boxes o a.cs a.reads) a.cut ∙ path-laid a.cs (λ z. ok.allowed (a.count ∙ z)) ∙ laid_is a.cs a.checked
+          ap₂ (laid_box g o) (k.boxes o a.cs a.reads) a.cut ∙ path_laid a.cs (λ z. ok.allowed (a.count ∙ z)) ∙ laid_is a.cs a.checked

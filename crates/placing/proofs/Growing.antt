@@ -16,7 +16,7 @@ use Rattle.list.specs.declared.Step.{Step}
 use Rattle.list.specs.declared.Step.TheVariants as step
 use Rattle.list.specs.Records.{step_at}
 use Rattle.path.specs.Reading.{path, read_list}
-use Rattle.path.proofs.Walk.{Unread, all-unread, Onward, at-the-end, never-refused, onward}
+use Rattle.path.proofs.Walk.{Unread, all_unread, Onward, at_the_end, never_refused, onward}
 use Rattle.placing.specs.Placing.{nowhere, moved_points, path_points, path_box}
 use Rattle.placing.specs.Measuring.{first_in, start_of, Boxes}
 use Rattle.placing.proofs.Accepted.{Begins, begins}
@@ -45,16 +45,16 @@ module _ (t : Transform) where
   unfolding path_box
   starts c cs b = rw (b.points, b.first) (first_again (moved t b.point) (path_points t cs))
 
-  starts-empty : box_from (box_at nowhere) (path_points t []) ≡ path_box t []
+  starts_empty : box_from (box_at nowhere) (path_points t []) ≡ path_box t []
   unfolding path_points path_box box_from box_of
-  starts-empty = refl
+  starts_empty = refl
 
   module _ (s : List ℕ) where
     start : (o : Point) (cs : List Command) (x : Step) → step_at s 0 ≡ x → read_list t o s ≡ path cs → box_from (start_of t x) (path_points t cs) ≡ path_box t cs
-    start o cs step.End e r = rw (at-the-end t o s 0 cs (all-unread t o s cs r) e) starts-empty
-    start o cs (step.Refused w) e r = absurd (never-refused t o s 0 cs (all-unread t o s cs r) w e)
+    start o cs step.End e r = rw (at_the_end t o s 0 cs (all_unread t o s cs r) e) starts_empty
+    start o cs (step.Refused w) e r = absurd (never_refused t o s 0 cs (all_unread t o s cs r) w e)
     start o cs (step.Command c next) e r =
-        let w : Onward t o s c next cs = onward t o s 0 cs (all-unread t o s cs r) c next e in
+        let w : Onward t o s c next cs = onward t o s 0 cs (all_unread t o s cs r) c next e in
         rw w.splits (starts c w.behind (begins t o s c w.behind (rw w.splits at r)))
 
     -- b is the box of what was passed of the commands cs; from `at` on the commands `rest` are read
@@ -69,7 +69,7 @@ module _ (t : Transform) where
     begun : (b : Bounds) → b ≡ start_of t (step_at s 0) → (o : Point) (cs : List Command) → read_list t o s ≡ path cs → Going o cs b 0
     begun b h o cs e = record {
       rest = cs;
-      unread = all-unread t o s cs e;
+      unread = all_unread t o s cs e;
       all = rw h (start o cs (step_at s 0) refl e);
     }
 
@@ -93,12 +93,12 @@ module _ (t : Transform) where
 
       ending : (o : Point) (cs : List Command) → step_at s at ≡ step.End → Going o cs b at → b ≡ path_box t cs
       unfolding path_points box_from
-      ending o cs e h = rw (at-the-end t o s at h.rest h.unread e) at h.all
+      ending o cs e h = rw (at_the_end t o s at h.rest h.unread e) at h.all
 
       pub ended : step_at s at ≡ step.End → Boxes t s b
       ended e = record { boxes = λ o cs r. ending o cs e (g.going o cs r) }
 
       pub turned : (w : Reason) → step_at s at ≡ step.Refused w → Boxes t s b
       turned w e = record {
-        boxes = λ o cs r. let h = g.going o cs r in absurd (never-refused t o s at h.rest h.unread w e);
+        boxes = λ o cs r. let h = g.going o cs r in absurd (never_refused t o s at h.rest h.unread w e);
       }

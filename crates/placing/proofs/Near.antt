@@ -27,7 +27,7 @@ use Rattle.command.specs.Commands.{points_of}
 use Rattle.path.specs.Reading.{path, passed, spot_at, all_pass, after_close, read_list}
 use Rattle.placing.specs.Placing.{path_points, path_box}
 use Rattle.placing.specs.Measuring.{Lies}
-use Rattle.placing.proofs.Accepted.{Begins, FineFrom, end, more, all-fine, begins, points-pass}
+use Rattle.placing.proofs.Accepted.{Begins, FineFrom, end, more, all_fine, begins, points_pass}
 
 -- ---- what every point has
 pub data Every (P : Point → Type 0) : List Point → Type 0 where
@@ -41,8 +41,8 @@ every_append (cons p h) k = cons p (every_append h k)
 -- ---- the box keeps what all the points' parts have
 module _ (P Q : Float → Type 0) where
   pub record Parts (p : Point) : Type 0 where
-    pub x-has : P p.x
-    pub y-has : Q p.y
+    pub x_has : P p.x
+    pub y_has : Q p.y
 
   pub record Keeps (b : Bounds) : Type 0 where
     pub low : Parts b.min
@@ -52,26 +52,26 @@ module _ (P Q : Float → Type 0) where
   chosen R true p q = q
   chosen R false p q = p
 
-  around-keeps : (b : Bounds) (p : Point) → Keeps b → Parts p → Keeps (around b p)
-  around-keeps b p k h = record {
+  around_keeps : (b : Bounds) (p : Point) → Keeps b → Parts p → Keeps (around b p)
+  around_keeps b p k h = record {
     low = record {
-      x-has = chosen P (lt p.x b.min.x) k.low.x-has h.x-has;
-      y-has = chosen Q (lt p.y b.min.y) k.low.y-has h.y-has;
+      x_has = chosen P (lt p.x b.min.x) k.low.x_has h.x_has;
+      y_has = chosen Q (lt p.y b.min.y) k.low.y_has h.y_has;
     };
     high = record {
-      x-has = chosen P (lt b.max.x p.x) k.high.x-has h.x-has;
-      y-has = chosen Q (lt b.max.y p.y) k.high.y-has h.y-has;
+      x_has = chosen P (lt b.max.x p.x) k.high.x_has h.x_has;
+      y_has = chosen Q (lt b.max.y p.y) k.high.y_has h.y_has;
     };
   }
 
-  from-keeps : (b : Bounds) (ps : List Point) → Keeps b → Every Parts ps → Keeps (box_from b ps)
+  from_keeps : (b : Bounds) (ps : List Point) → Keeps b → Every Parts ps → Keeps (box_from b ps)
   unfolding box_from
-  from-keeps b [] k nil = k
-  from-keeps b (p ∷ ps) k (cons h hs) = from-keeps (around b p) ps (around-keeps b p k h) hs
+  from_keeps b [] k nil = k
+  from_keeps b (p ∷ ps) k (cons h hs) = from_keeps (around b p) ps (around_keeps b p k h) hs
 
-  pub box-keeps : (p : Point) (ps : List Point) → Every Parts (p ∷ ps) → Keeps (box_of (p ∷ ps))
+  pub box_keeps : (p : Point) (ps : List Point) → Every Parts (p ∷ ps) → Keeps (box_of (p ∷ ps))
   unfolding box_of
-  box-keeps p ps (cons h hs) = from-keeps (box_at p) ps (record { low = h; high = h }) hs
+  box_keeps p ps (cons h hs) = from_keeps (box_at p) ps (record { low = h; high = h }) hs
 
 -- ---- what passes the point rule reaches
 abbrev pub farthest : ℕ  -- how far a part may lie, in whole pixels, rounded up
@@ -141,31 +141,31 @@ module _ (t : Transform) (o : Point) where
   abbrev Placed : Point → Type 0
   Placed p = Parts Right Up p
 
-  spot-placed : (p : Point) → passed (spot_at t o p) ≡ true → Placed (moved t p)
+  spot_placed : (p : Point) → passed (spot_at t o p) ≡ true → Placed (moved t p)
   unfolding spot_at
-  spot-placed p h = let b = spot_small (shifted o (moved t p)) h in record { x-has = b.x_small; y-has = b.y_small }
+  spot_placed p h = let b = spot_small (shifted o (moved t p)) h in record { x_has = b.x_small; y_has = b.y_small }
 
   all_placed : (ps : List Point) → all_pass t o ps ≡ true → Every Placed (map (moved t) ps)
   unfolding all_pass
   all_placed [] h = nil
   all_placed (p ∷ ps) h =
       let b = both_true (passed (spot_at t o p)) (all_pass t o ps) h in
-      cons (spot-placed p b.0) (all_placed ps b.1)
+      cons (spot_placed p b.0) (all_placed ps b.1)
 
-  path-placed : {i : ℕ} {p : Option Command} {cs : List Command} → FineFrom t o i p cs → Every Placed (path_points t cs)
+  path_placed : {i : ℕ} {p : Option Command} {cs : List Command} → FineFrom t o i p cs → Every Placed (path_points t cs)
   unfolding path_points
-  path-placed end = nil
-  path-placed {i} {p} (more {c = c} v h) = every_append (all_placed (points_of c) (points-pass t o i (after_close p) c v)) (path-placed h)
+  path_placed end = nil
+  path_placed {i} {p} (more {c = c} v h) = every_append (all_placed (points_of c) (points_pass t o i (after_close p) c v)) (path_placed h)
 
-  kept-lies : (b : Bounds) → Keeps Right Up b → Lies o b
-  kept-lies b k = record {
-    low = within_small (shifted o b.min) (record { x_small = k.low.x-has; y_small = k.low.y-has });
-    high = within_small (shifted o b.max) (record { x_small = k.high.x-has; y_small = k.high.y-has });
+  kept_lies : (b : Bounds) → Keeps Right Up b → Lies o b
+  kept_lies b k = record {
+    low = within_small (shifted o b.min) (record { x_small = k.low.x_has; y_small = k.low.y_has });
+    high = within_small (shifted o b.max) (record { x_small = k.high.x_has; y_small = k.high.y_has });
   }
 
-  begun-lies : (c : Command) (cs : List Command) → Begins t c cs → Every Placed (path_points t (c ∷ cs)) → Lies o (path_box t (c ∷ cs))
+  begun_lies : (c : Command) (cs : List Command) → Begins t c cs → Every Placed (path_points t (c ∷ cs)) → Lies o (path_box t (c ∷ cs))
   unfolding path_box
-  begun-lies c cs b h = kept-lies _ (rw b.points (box-keeps Right Up (moved t b.point) (path_points t cs) (rw b.points at h)))
+  begun_lies c cs b h = kept_lies _ (rw b.points (box_keeps Right Up (moved t b.point) (path_points t cs) (rw b.points at h)))
 
-  pub accepted-lies : (s : List ℕ) (c : Command) (cs : List Command) → read_list t o s ≡ path (c ∷ cs) → Lies o (path_box t (c ∷ cs))
-  accepted-lies s c cs e = begun-lies c cs (begins t o s c cs e) (path-placed (all-fine t o s (c ∷ cs) e))
+  pub accepted_lies : (s : List ℕ) (c : Command) (cs : List Command) → read_list t o s ≡ path (c ∷ cs) → Lies o (path_box t (c ∷ cs))
+  accepted_lies s c cs e = begun_lies c cs (begins t o s c cs e) (path_placed (all_fine t o s (c ∷ cs) e))

@@ -57,16 +57,16 @@ units_small q k t = go (ltb (q * 2 ^ k) (2 ^ 277)) t
     go false t = absurd (unfold le in t)
 
 module _ (a c : ℕ) (C : 0 < c) (h : a ≤ farthest * c) where
-  below-most : T (le (round binary32 false a c) most)
-  below-most = subst (λ (z : Float). T (le (round binary32 false a c) z)) most_is (round_mono binary32 a c farthest 1 C (omega arith) (omega arith))
+  below_most : T (le (round binary32 false a c) most)
+  below_most = subst (λ (z : Float). T (le (round binary32 false a c) z)) most_is (round_mono binary32 a c farthest 1 C (omega arith) (omega arith))
 
-  round-small : Small (round binary32 false a c)
-  round-small =
+  round_small : Small (round binary32 false a c)
+  round_small =
       let r = round_is binary32 false a c in
-      subst Small (sym r) (units_small _ _ (subst (λ (z : Float). T (le z most)) r below-most))
+      subst Small (sym r) (units_small _ _ (subst (λ (z : Float). T (le z most)) r below_most))
 
-  negative-small : Small (round binary32 true a c)
-  negative-small = subst Small (neg_round binary32 false a c) (negated round-small)
+  negative_small : Small (round binary32 true a c)
+  negative_small = subst Small (neg_round binary32 false a c) (negated round_small)
     where
       negated : {v : Float} → Small v → Small (neg v)
       negated (small_part l) = unfold neg in small_part l
@@ -74,12 +74,12 @@ module _ (a c : ℕ) (C : 0 < c) (h : a ≤ farthest * c) where
 -- ---- added to zero
 sum_small : (s : Bool) (n c : ℕ) → 0 < c → n ≤ farthest * c → Small (sum binary32 false (0 * 1 * c) s (n * 1) (1 * c))
 unfolding sum
-sum_small false n c C h = round-small (0 * 1 * c + n * 1) (1 * c) (omega arith) (omega arith)
+sum_small false n c C h = round_small (0 * 1 * c + n * 1) (1 * c) (omega arith) (omega arith)
 sum_small true n c C h = go (ltb (0 * 1 * c) (n * 1))
   where
     go : (u : Bool) → Small (cond u (round binary32 true (n * 1 - 0 * 1 * c) (1 * c)) (round binary32 false (0 * 1 * c - n * 1) (1 * c)))
-    go true = negative-small (n * 1 - 0 * 1 * c) (1 * c) (omega arith) (omega arith)
-    go false = round-small (0 * 1 * c - n * 1) (1 * c) (omega arith) (omega arith)
+    go true = negative_small (n * 1 - 0 * 1 * c) (1 * c) (omega arith) (omega arith)
+    go false = round_small (0 * 1 * c - n * 1) (1 * c) (omega arith) (omega arith)
 
 zero_plus : (v : Float) → Small v → Small (plus zero_f v)
 unfolding add of_bits

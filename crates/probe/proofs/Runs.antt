@@ -22,9 +22,9 @@ module _ (rows : ℕ) (pairs ws : List ℕ) where
   ran : {ws' : List ℕ} {r : ℕ} (u : Run) → run ≡ u → r ≡ cells_of u → Left rows (deposits_of rows pairs) ws ws' u → Ran rows pairs ws ws' r
   ran u e t l = record { told = rw e t; left = rw e l }
 
-  many-rows : most_rows < rows → run ≡ unpooled
+  many_rows : most_rows < rows → run ≡ unpooled
   unfolding run_of
-  many-rows h = simp (lt-leb _ _ h)
+  many_rows h = simp (lt-leb _ _ h)
 
   few_words : rows ≤ most_rows → length ws < rows → run ≡ unpooled
   unfolding run_of
@@ -37,10 +37,10 @@ module _ (rows : ℕ) (pairs ws : List ℕ) where
   -- ---- the four ways in which it ends
 
   pub too_many_rows : most_rows < rows → Ran rows pairs ws ws no_cells
-  too_many_rows h = ran unpooled (many-rows h) refl refl
+  too_many_rows h = ran unpooled (many_rows h) refl refl
 
-  pub too-few-words : rows ≤ most_rows → length ws < rows → Ran rows pairs ws ws no_cells
-  too-few-words h g = ran unpooled (few_words h g) refl refl
+  pub too_few_words : rows ≤ most_rows → length ws < rows → Ran rows pairs ws ws no_cells
+  too_few_words h g = ran unpooled (few_words h g) refl refl
 
   module _ (h : rows ≤ most_rows) (g : rows ≤ length ws) {cap : ℕ} (c : cap ≡ pool_of rows (length ws)) {ws' ws'' : List ℕ} (e : ws' ≡ replicate rows 0 ++ drop rows ws)
       {k : Kept} (d : Deposited ws' ws'' rows last_column cap 0 (deposits_of rows pairs) k) where
@@ -50,11 +50,11 @@ module _ (rows : ℕ) (pairs ws : List ℕ) where
     long : length ws'' ≡ length ws
     long = d.long ∙ ap length e ∙ simp (length-append, length-replicate, length-drop) (omega arith)
 
-    pub all-stored : (n : ℕ) → k ≡ Cells n → Ran rows pairs ws ws'' n
-    all-stored n q = ran (pooled (Cells n)) (kept ∙ ap pooled q) refl (rw q at (whole (drop rows ws) e d).1)
+    pub all_stored : (n : ℕ) → k ≡ Cells n → Ran rows pairs ws ws'' n
+    all_stored n q = ran (pooled (Cells n)) (kept ∙ ap pooled q) refl (rw q at (whole (drop rows ws) e d).1)
 
-    pub too-many-places : {ws''' : List ℕ} → k ≡ Full → ws''' ≡ replicate (length ws'') 0 → Ran rows pairs ws ws''' no_cells
-    too-many-places q z = ran (pooled Full) (kept ∙ ap pooled q) refl (rw long at z)
+    pub too_many_places : {ws''' : List ℕ} → k ≡ Full → ws''' ≡ replicate (length ws'') 0 → Ran rows pairs ws ws''' no_cells
+    too_many_places q z = ran (pooled Full) (kept ∙ ap pooled q) refl (rw long at z)
 
 -- ---- 65,535 is no number of cells, and fixes the words
 

@@ -10,7 +10,7 @@ use Rattle.storage.specs.declared.Kept.{Kept}
 use Rattle.storage.specs.declared.Kept.TheVariants.{Cells, Full}
 use Rattle.storage.specs.Deposits.{per_row, Deposit}
 use Rattle.storage.specs.Answers.{Room, Storing, Deposited}
-use Rattle.storage.proofs.Pools.{room_kept, deposited-none, deposited-one, deposited-then, deposited-full}
+use Rattle.storage.proofs.Pools.{room_kept, deposited_none, deposited_one, deposited_then, deposited_full}
 use Rattle.probe.specs.Probes.{last_column, deposit_of, deposits_of}
 
 -- ---- one pair
@@ -18,14 +18,14 @@ use Rattle.probe.specs.Probes.{last_column, deposit_of, deposits_of}
 module _ {rows row : ℕ} (column cover area : ℕ) {ws : List ℕ} {cap count : ℕ} where
   -- a row or a column too far stores nothing
   pub below : Room ws rows cap count → rows ≤ row → Deposited ws ws rows last_column cap count (deposit_of rows row column cover area) (Cells count)
-  below R h = simp (le-ltb _ _ h) (deposited-none R.used)
+  below R h = simp (le-ltb _ _ h) (deposited_none R.used)
 
   pub beside : Room ws rows cap count → row < rows → per_row ≤ column → Deposited ws ws rows last_column cap count (deposit_of rows row column cover area) (Cells count)
-  beside R h g = simp (lt-ltb _ _ h, le-ltb _ _ g) (deposited-none R.used)
+  beside R h g = simp (lt-ltb _ _ h, le-ltb _ _ g) (deposited_none R.used)
 
   pub inside : {ws' : List ℕ} {r : Kept} → row < rows → column < per_row → Storing ws ws' rows cap count row column cover area r
       → Deposited ws ws' rows last_column cap count (deposit_of rows row column cover area) r
-  inside h g s = simp (lt-ltb _ _ h, lt-ltb _ _ g) (deposited-one (omega arith) s)
+  inside h g s = simp (lt-ltb _ _ h, lt-ltb _ _ g) (deposited_one (omega arith) s)
 
 -- ---- a list of pairs
 
@@ -63,7 +63,7 @@ module _ (rows cap : ℕ) (pairs ws₀ : List ℕ) where
     pub held : Deposited ws₀ ws rows last_column cap 0 done (Cells count)
 
   pub started : Room ws₀ rows cap 0 → Going ws₀ 0 0
-  started R = record { within = omega arith; done = []; all = refl; held = deposited-none R.used }
+  started R = record { within = omega arith; done = []; all = refl; held = deposited_none R.used }
 
   module _ {ws : List ℕ} {count at : ℕ} (g : Going ws count at) where
     pub room : Room ws₀ rows cap 0 → Room ws rows cap count
@@ -74,10 +74,10 @@ module _ (rows cap : ℕ) (pairs ws₀ : List ℕ) where
 
     module _ {ws' : List ℕ} {r : Kept} (h : at + 3 < length pairs) (d : Deposited ws ws' rows last_column cap count (depositAt rows pairs at) r) where
       pub goes_on : (n : ℕ) → r ≡ Cells n → Going ws' n (at + 4)
-      goes_on n e = record { within = omega arith; done = g.done ++ depositAt rows pairs at; all = split h; held = rw e at (deposited-then g.held d) }
+      goes_on n e = record { within = omega arith; done = g.done ++ depositAt rows pairs at; all = split h; held = rw e at (deposited_then g.held d) }
 
       pub full : r ≡ Full → Deposited ws₀ ws' rows last_column cap 0 (deposits_of rows pairs) Full
-      full e = rw (← split h) (deposited-full (deposits_of rows (drop (at + 4) pairs)) (rw e at (deposited-then g.held d)))
+      full e = rw (← split h) (deposited_full (deposits_of rows (drop (at + 4) pairs)) (rw e at (deposited_then g.held d)))
 
     pub stored : length pairs ≤ at + 3 → Deposited ws₀ ws rows last_column cap 0 (deposits_of rows pairs) (Cells count)
     stored h =

@@ -10,7 +10,7 @@ use Rattle.pen.specs.declared.Frame.{Frame}
 use Rattle.pen.specs.declared.Pen.{Pen}
 use Rattle.pen.specs.Marks.{Mark}
 use Rattle.pen.specs.Drawing.{Drew}
-use Rattle.pen.proofs.Adding.{drew-none, drew-then}
+use Rattle.pen.proofs.Adding.{drew_none, drew_then}
 use Rattle.line.specs.Range.{Reach}
 use Rattle.line.specs.Lines.{line_marks, along}
 use Rattle.line.proofs.Points.{along_next, along_none}
@@ -40,7 +40,7 @@ going f cap ws pen a c b draw w p q r e =
       stack = begun a c b (doublings 16 (bend a c b)) draw p q r (eight a c b p q r 16) e;
       from_in = p;
       done = [];
-      drew = drew-none f cap w;
+      drew = drew_none f cap w;
       same = refl;
     }
 
@@ -66,7 +66,7 @@ module _ {f : Frame} {cap : ℕ} {all : List Mark} {ws₀ : List ℕ} {pen₀ : 
 
     drew : Drew f cap ws₀ ws' pen₀ pen' (g.done ++ line)
     unfolding line
-    drew = drew-then f cap g.drew d
+    drew = drew_then f cap g.drew d
 
     pub finished : draw - 1 ≡ 0 → Drew f cap ws₀ ws' pen₀ pen' all
     finished z =

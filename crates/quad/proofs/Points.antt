@@ -77,11 +77,11 @@ points_keep P k a c b p q r = halves_keep P k (doublings 16 (bend a c b)) a c b 
 
 -- ---- in the box of the three
 module _ (lo hi : ℕ) (a c b : FixedPoint) where
-  pub points-x : Between lo hi a.x → Between lo hi c.x → Between lo hi b.x → Each (λ p. Between lo hi p.x) (quad_points a c b)
-  points-x p q r = points_keep (λ p. Between lo hi p.x) (x_kept lo hi) a c b p q r
+  pub points_x : Between lo hi a.x → Between lo hi c.x → Between lo hi b.x → Each (λ p. Between lo hi p.x) (quad_points a c b)
+  points_x p q r = points_keep (λ p. Between lo hi p.x) (x_kept lo hi) a c b p q r
 
-  pub points-y : Between lo hi a.y → Between lo hi c.y → Between lo hi b.y → Each (λ p. Between lo hi p.y) (quad_points a c b)
-  points-y p q r = points_keep (λ p. Between lo hi p.y) (y_kept lo hi) a c b p q r
+  pub points_y : Between lo hi a.y → Between lo hi c.y → Between lo hi b.y → Each (λ p. Between lo hi p.y) (quad_points a c b)
+  points_y p q r = points_keep (λ p. Between lo hi p.y) (y_kept lo hi) a c b p q r
 
 -- in their columns and their rows
 pub columns_kept : (lo hi : ℕ) → Kept (λ p. Between lo hi (cell p.x))
@@ -99,11 +99,11 @@ rows_kept lo hi = record {
 }
 
 module _ (lo hi : ℕ) (a c b : FixedPoint) where
-  pub points-columns : Between lo hi (cell a.x) → Between lo hi (cell c.x) → Between lo hi (cell b.x) → Each (λ p. Between lo hi (cell p.x)) (quad_points a c b)
-  points-columns p q r = points_keep (λ p. Between lo hi (cell p.x)) (columns_kept lo hi) a c b p q r
+  pub points_columns : Between lo hi (cell a.x) → Between lo hi (cell c.x) → Between lo hi (cell b.x) → Each (λ p. Between lo hi (cell p.x)) (quad_points a c b)
+  points_columns p q r = points_keep (λ p. Between lo hi (cell p.x)) (columns_kept lo hi) a c b p q r
 
-  pub points-rows : Between lo hi (cell a.y) → Between lo hi (cell c.y) → Between lo hi (cell b.y) → Each (λ p. Between lo hi (cell p.y)) (quad_points a c b)
-  points-rows p q r = points_keep (λ p. Between lo hi (cell p.y)) (rows_kept lo hi) a c b p q r
+  pub points_rows : Between lo hi (cell a.y) → Between lo hi (cell c.y) → Between lo hi (cell b.y) → Each (λ p. Between lo hi (cell p.y)) (quad_points a c b)
+  points_rows p q r = points_keep (λ p. Between lo hi (cell p.y)) (rows_kept lo hi) a c b p q r
 
 -- within reach
 pub points_reach : (a c b : FixedPoint) → Reach a → Reach c → Reach b → Each Reach (quad_points a c b)

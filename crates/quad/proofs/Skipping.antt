@@ -15,32 +15,32 @@ module _ (e x y z : ℕ) {r : ℕ} (p : r ≡ x) where
   pub first_past : r < e → leb e r ≡ (leb e x && leb e y && leb e z)
   first_past h = rw (← p) (simp (lt-leb _ _ h))
 
-  pub first-ahead : e ≤ r → ltb r e ≡ (ltb x e && ltb y e && ltb z e)
-  first-ahead h = rw (← p) (simp (le-ltb _ _ h))
+  pub first_ahead : e ≤ r → ltb r e ≡ (ltb x e && ltb y e && ltb z e)
+  first_ahead h = rw (← p) (simp (le-ltb _ _ h))
 
   module _ {s : ℕ} (q : s ≡ y) where
     pub second_past : e ≤ r → s < e → leb e s ≡ (leb e x && leb e y && leb e z)
     second_past h g = rw (← p, ← q) (simp (le-leb _ _ h, lt-leb _ _ g))
 
-    pub second-ahead : r < e → e ≤ s → ltb s e ≡ (ltb x e && ltb y e && ltb z e)
-    second-ahead h g = rw (← p, ← q) (simp (lt-ltb _ _ h, le-ltb _ _ g))
+    pub second_ahead : r < e → e ≤ s → ltb s e ≡ (ltb x e && ltb y e && ltb z e)
+    second_ahead h g = rw (← p, ← q) (simp (lt-ltb _ _ h, le-ltb _ _ g))
 
-    pub third-past : {t : ℕ} → t ≡ z → e ≤ r → e ≤ s → leb e t ≡ (leb e x && leb e y && leb e z)
-    third-past k h g = rw (← p, ← q, ← k) (simp (le-leb _ _ h, le-leb _ _ g))
+    pub third_past : {t : ℕ} → t ≡ z → e ≤ r → e ≤ s → leb e t ≡ (leb e x && leb e y && leb e z)
+    third_past k h g = rw (← p, ← q, ← k) (simp (le-leb _ _ h, le-leb _ _ g))
 
-    pub third-ahead : {t : ℕ} → t ≡ z → r < e → s < e → ltb t e ≡ (ltb x e && ltb y e && ltb z e)
-    third-ahead k h g = rw (← p, ← q, ← k) (simp (lt-ltb _ _ h, lt-ltb _ _ g))
+    pub third_ahead : {t : ℕ} → t ≡ z → r < e → s < e → ltb t e ≡ (ltb x e && ltb y e && ltb z e)
+    third_ahead k h g = rw (← p, ← q, ← k) (simp (lt-ltb _ _ h, lt-ltb _ _ g))
 
 -- the marks of a quad past an edge, and of any other
 module _ (f : Frame) (a c b : FixedPoint) where
-  pub past-marks : all_past f a c b ≡ true → quad_marks f a c b ≡ []
+  pub past_marks : all_past f a c b ≡ true → quad_marks f a c b ≡ []
   unfolding quad_marks
-  past-marks p = rw p
+  past_marks p = rw p
 
-  pub ahead-marks : all_past f a c b ≡ false → all_ahead f a c b ≡ true → quad_marks f a c b ≡ []
+  pub ahead_marks : all_past f a c b ≡ false → all_ahead f a c b ≡ true → quad_marks f a c b ≡ []
   unfolding quad_marks
-  ahead-marks p q = rw (p, q)
+  ahead_marks p q = rw (p, q)
 
-  pub drawn-marks : all_past f a c b ≡ false → all_ahead f a c b ≡ false → quad_marks f a c b ≡ along f a (quad_points a c b)
+  pub drawn_marks : all_past f a c b ≡ false → all_ahead f a c b ≡ false → quad_marks f a c b ≡ along f a (quad_points a c b)
   unfolding quad_marks
-  drawn-marks p q = rw (p, q)
+  drawn_marks p q = rw (p, q)

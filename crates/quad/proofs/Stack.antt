@@ -87,8 +87,8 @@ module _ (l : List FixedPoint) (a : ℕ) (room : a + 4 < length l) where
       let h4 : point_of (halved l a) (a + 2 + 2) ≡ r = at_place 3 (a + 2 + 2) (omega arith) (omega arith) in
       rw (h0, h1, h2, h3, h4)
 
-  part-reach : Every Reach (a + 3) l → Every Reach 3 (part_at l a)
-  part-reach o = record { at = go }
+  part_reach : Every Reach (a + 3) l → Every Reach 3 (part_at l a)
+  part_reach o = record { at = go }
     where
       go : (i : ℕ) → i < 3 → Reach (point_of (part_at l a) i)
       go zero h = o.at a (omega arith)
@@ -96,11 +96,11 @@ module _ (l : List FixedPoint) (a : ℕ) (room : a + 4 < length l) where
       go (suc (suc zero)) h = o.at (a + 2) (omega arith)
       go (suc (suc (suc i))) h = absurd (omega arith)
 
-  halved-reach : Every Reach (a + 3) l → Every Reach (a + 2 + 3) (halved l a)
-  halved-reach o = record { at = λ i h. ⊎_elim (below i) (higher i h) (eq-zero-or-pos (i - a)) }
+  halved_reach : Every Reach (a + 3) l → Every Reach (a + 2 + 3) (halved l a)
+  halved_reach o = record { at = λ i h. ⊎_elim (below i) (higher i h) (eq-zero-or-pos (i - a)) }
     where
       five : Every Reach 5 (split_quad (part_at l a))
-      five = quad_keeps reach_kept (part-reach o)
+      five = quad_keeps reach_kept (part_reach o)
 
       below : (i : ℕ) → i - a ≡ 0 → Reach (point_of (halved l a) i)
       below i g = rw (low i (omega arith)) (o.at i (omega arith))
@@ -123,11 +123,11 @@ pub record Stacked (l : List FixedPoint) (a draw rest : ℕ) (left : List FixedP
 
 module _ {l : List FixedPoint} {a draw rest : ℕ} {left : List FixedPoint} (s : Stacked l a draw rest left) where
   -- the stack is never full: 19 of its 33 places at most are in use
-  pub never-full : a + 3 ≤ 19
-  never-full = omega (arith, s.place, rising_few s.top s.under s.rising)
+  pub never_full : a + 3 ≤ 19
+  never_full = omega (arith, s.place, rising_few s.top s.under s.rising)
 
-  pub few-left : draw ≤ 256
-  few-left = omega (arith, s.count, lines_few s.top s.under s.rising)
+  pub few_left : draw ≤ 256
+  few_left = omega (arith, s.count, lines_few s.top s.under s.rising)
 
   pub some_left : 1 ≤ draw
   some_left = omega (arith, s.count, pow_pos s.top)
@@ -139,8 +139,8 @@ module _ {l : List FixedPoint} {a draw rest : ℕ} {left : List FixedPoint} (s :
     pub room : a ≤ 14
     room = omega (arith, s.place, deep.1, rising_few s.top s.under s.rising)
 
-    pub rest-less : rest / 2 < rest
-    rest-less = omega (arith, s.halvings, pow_pos s.top)
+    pub rest_less : rest / 2 < rest
+    rest_less = omega (arith, s.halvings, pow_pos s.top)
 
     pub pushed : Stacked (halved l a) (a + 2) draw (rest / 2) left
     unfolding lines waiting halved
@@ -161,7 +161,7 @@ module _ {l : List FixedPoint} {a draw rest : ℕ} {left : List FixedPoint} (s :
           rising = more {d = e} {e = e} {es = es} (omega arith) (subst (λ (t : ℕ). Rising t es) p s.rising);
           count = omega (arith, s.count, ap (λ (t : ℕ). 2 ^ t) p, pow-suc 2 e);
           halvings = omega (arith, s.halvings, ap (λ (t : ℕ). 2 ^ t * (2 * s.odd + 1)) p, half_odd e s.odd);
-          reach = halved-reach l a fits s.reach;
+          reach = halved_reach l a fits s.reach;
           points_left =
               s.points_left
               ∙ ap (λ (t : ℕ). waiting l (t ∷ es)) p

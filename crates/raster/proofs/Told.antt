@@ -24,52 +24,52 @@ told_stroked k e h = rw e h
 
 -- ---- the marks of each case, and of a path, one stroke at a time
 module _ (f : Frame) (a s : FixedPoint) where
-  stroke-move : (b : FixedPoint) → stroke_marks f a s (Move b) ≡ move_marks f a s b
+  stroke_move : (b : FixedPoint) → stroke_marks f a s (Move b) ≡ move_marks f a s b
   unfolding stroke_marks
-  stroke-move b = refl
+  stroke_move b = refl
 
-  stroke-line : (b : FixedPoint) → stroke_marks f a s (Line b) ≡ line_marks f a b
+  stroke_line : (b : FixedPoint) → stroke_marks f a s (Line b) ≡ line_marks f a b
   unfolding stroke_marks
-  stroke-line b = refl
+  stroke_line b = refl
 
-  stroke-quad : (c b : FixedPoint) → stroke_marks f a s (Quad c b) ≡ quad_marks f a c b
+  stroke_quad : (c b : FixedPoint) → stroke_marks f a s (Quad c b) ≡ quad_marks f a c b
   unfolding stroke_marks
-  stroke-quad c b = refl
+  stroke_quad c b = refl
 
-  stroke-cubic : (c d b : FixedPoint) → stroke_marks f a s (Cubic c d b) ≡ cubic_marks f a c d b
+  stroke_cubic : (c d b : FixedPoint) → stroke_marks f a s (Cubic c d b) ≡ cubic_marks f a c d b
   unfolding stroke_marks
-  stroke-cubic c d b = refl
+  stroke_cubic c d b = refl
 
-  stroke-close : stroke_marks f a s Close ≡ line_marks f a s
+  stroke_close : stroke_marks f a s Close ≡ line_marks f a s
   unfolding stroke_marks
-  stroke-close = refl
+  stroke_close = refl
 
-  pub marks-end : marks_from f a s [] ≡ line_marks f a s
+  pub marks_end : marks_from f a s [] ≡ line_marks f a s
   unfolding marks_from
-  marks-end = refl
+  marks_end = refl
 
-  pub marks-stroke : (k : Stroke) (ks : List Stroke) → marks_from f a s (k ∷ ks) ≡ stroke_marks f a s k ++ marks_from f (point_after s k) (start_after s k) ks
+  pub marks_stroke : (k : Stroke) (ks : List Stroke) → marks_from f a s (k ∷ ks) ≡ stroke_marks f a s k ++ marks_from f (point_after s k) (start_after s k) ks
   unfolding marks_from
-  marks-stroke k ks = refl
+  marks_stroke k ks = refl
 
 abbrev track : Pen → FixedPoint → FixedPoint → Track
 track q a s = record { pen = q; at = a; start = s }
 
 module _ {f : Frame} {cap : ℕ} {ws ws' : List ℕ} {t : Track} {p : Pen} where
   pub moves : (b : FixedPoint) → Drew f cap ws ws' t.pen p (move_marks f t.at t.start b) → Stroked f cap ws ws' t (Move b) (track p b b)
-  moves b d = record { drew = rw (stroke-move f t.at t.start b) d; goes = refl; starts = refl }
+  moves b d = record { drew = rw (stroke_move f t.at t.start b) d; goes = refl; starts = refl }
 
   pub lines : (b : FixedPoint) → Drew f cap ws ws' t.pen p (line_marks f t.at b) → Stroked f cap ws ws' t (Line b) (track p b t.start)
-  lines b d = record { drew = rw (stroke-line f t.at t.start b) d; goes = refl; starts = refl }
+  lines b d = record { drew = rw (stroke_line f t.at t.start b) d; goes = refl; starts = refl }
 
   pub bends : (c b : FixedPoint) → Drew f cap ws ws' t.pen p (quad_marks f t.at c b) → Stroked f cap ws ws' t (Quad c b) (track p b t.start)
-  bends c b d = record { drew = rw (stroke-quad f t.at t.start c b) d; goes = refl; starts = refl }
+  bends c b d = record { drew = rw (stroke_quad f t.at t.start c b) d; goes = refl; starts = refl }
 
   pub curves : (c e b : FixedPoint) → Drew f cap ws ws' t.pen p (cubic_marks f t.at c e b) → Stroked f cap ws ws' t (Cubic c e b) (track p b t.start)
-  curves c e b d = record { drew = rw (stroke-cubic f t.at t.start c e b) d; goes = refl; starts = refl }
+  curves c e b d = record { drew = rw (stroke_cubic f t.at t.start c e b) d; goes = refl; starts = refl }
 
   pub closes : Drew f cap ws ws' t.pen p (line_marks f t.at t.start) → Stroked f cap ws ws' t Close (track p t.start t.start)
-  closes d = record { drew = rw (stroke-close f t.at t.start) d; goes = refl; starts = refl }
+  closes d = record { drew = rw (stroke_close f t.at t.start) d; goes = refl; starts = refl }
 
 -- the pen point and the start stay within reach
 pub reach_point : (s : FixedPoint) (k : Stroke) → Reach s → ReachAll k → Reach (point_after s k)

@@ -18,22 +18,22 @@ same : (l : List ℕ) (i a : ℕ) → i < length l → get_or (set l i a) i 0 �
 same l i a h = get_or-set_same l i a 0 h
 
 module _ (ws : List ℕ) (at cover area : ℕ) where
-  pair-else : (i : ℕ) → (i ≡ at + 1 → ⊥) → (i ≡ at + 2 → ⊥) → get_or (with_pair ws at cover area) i 0 ≡ get_or ws i 0
-  pair-else i a b = other (with_sum ws (at + 1) cover) (at + 2) i _ b ∙ other ws (at + 1) i _ a
+  pair_else : (i : ℕ) → (i ≡ at + 1 → ⊥) → (i ≡ at + 2 → ⊥) → get_or (with_pair ws at cover area) i 0 ≡ get_or ws i 0
+  pair_else i a b = other (with_sum ws (at + 1) cover) (at + 2) i _ b ∙ other ws (at + 1) i _ a
 
   module _ (fits : at + 2 < length ws) where
-    pair-cover : get_or (with_pair ws at cover area) (at + 1) 0 ≡ (get_or ws (at + 1) 0 + cover) % 2 ^ 32
-    pair-cover =
+    pair_cover : get_or (with_pair ws at cover area) (at + 1) 0 ≡ (get_or ws (at + 1) 0 + cover) % 2 ^ 32
+    pair_cover =
         other (with_sum ws (at + 1) cover) (at + 2) (at + 1) _ (omega arith) ∙ same ws (at + 1) _ (omega arith)
 
-    pair-area : get_or (with_pair ws at cover area) (at + 2) 0 ≡ (get_or ws (at + 2) 0 + area) % 2 ^ 32
-    pair-area =
+    pair_area : get_or (with_pair ws at cover area) (at + 2) 0 ≡ (get_or ws (at + 2) 0 + area) % 2 ^ 32
+    pair_area =
         same (with_sum ws (at + 1) cover) (at + 2) _ (simp length-set (omega arith))
         ∙ ap (λ (x : ℕ). (x + area) % 2 ^ 32) (other ws (at + 1) (at + 2) _ (omega arith))
 
 module _ (ws : List ℕ) (at place cover area links : ℕ) where
-  cell-before : (i : ℕ) → i < at → get_or (with_cell ws at place cover area links) i 0 ≡ get_or ws i 0
-  cell-before i h =
+  cell_before : (i : ℕ) → i < at → get_or (with_cell ws at place cover area links) i 0 ≡ get_or ws i 0
+  cell_before i h =
       let n₀ : i ≡ at → ⊥ = omega arith in
       let n₁ : i ≡ at + 1 → ⊥ = omega arith in
       let n₂ : i ≡ at + 2 → ⊥ = omega arith in
@@ -41,37 +41,37 @@ module _ (ws : List ℕ) (at place cover area links : ℕ) where
       rw (other, other, other, other) refl
 
   module _ (fits : at + 3 < length ws) where
-    cell-place : get_or (with_cell ws at place cover area links) at 0 ≡ place
-    cell-place =
+    cell_place : get_or (with_cell ws at place cover area links) at 0 ≡ place
+    cell_place =
         let n₁ : at ≡ at + 1 → ⊥ = omega arith in
         let n₂ : at ≡ at + 2 → ⊥ = omega arith in
         let n₃ : at ≡ at + 3 → ⊥ = omega arith in
         let h : at < length ws = omega arith in
         rw (other, other, other, same) refl
 
-    cell-cover : get_or (with_cell ws at place cover area links) (at + 1) 0 ≡ cover
-    cell-cover =
+    cell_cover : get_or (with_cell ws at place cover area links) (at + 1) 0 ≡ cover
+    cell_cover =
         let n₂ : at + 1 ≡ at + 2 → ⊥ = omega arith in
         let n₃ : at + 1 ≡ at + 3 → ⊥ = omega arith in
         let h : at + 1 < length (set ws at place) = simp length-set (omega arith) in
         rw (other, other, same) refl
 
-    cell-area : get_or (with_cell ws at place cover area links) (at + 2) 0 ≡ area
-    cell-area =
+    cell_area : get_or (with_cell ws at place cover area links) (at + 2) 0 ≡ area
+    cell_area =
         let n₃ : at + 2 ≡ at + 3 → ⊥ = omega arith in
         let h : at + 2 < length (set (set ws at place) (at + 1) cover) = simp length-set (omega arith) in
         rw (other, same) refl
 
-    cell-links : get_or (with_cell ws at place cover area links) (at + 3) 0 ≡ links
-    cell-links = same (set (set (set ws at place) (at + 1) cover) (at + 2) area) (at + 3) links (simp length-set (omega arith))
+    cell_links : get_or (with_cell ws at place cover area links) (at + 3) 0 ≡ links
+    cell_links = same (set (set (set ws at place) (at + 1) cover) (at + 2) area) (at + 3) links (simp length-set (omega arith))
 
 -- ---- the word of a link
 
 module _ (rows row : ℕ) (hrow : row < rows) where
   -- it is none of a cell's first three words
-  link-part : (j p : ℕ) → p < 3 → (l : ℕ) → rows + 4 * j + p ≡ link_word rows row l → ⊥
-  link-part j p h zero = omega arith
-  link-part j p h (suc k) = omega arith
+  link_part : (j p : ℕ) → p < 3 → (l : ℕ) → rows + 4 * j + p ≡ link_word rows row l → ⊥
+  link_part j p h zero = omega arith
+  link_part j p h (suc k) = omega arith
 
 -- ---- a link back
 
@@ -84,11 +84,11 @@ same_pool p c a l P = rw (fun_ext p, fun_ext c, fun_ext a, fun_ext (λ r. fun_ex
 -- whatever it is, the words hold what they held
 module _ (ws : List ℕ) (rows width count : ℕ) (log : List Deposit) (P : Holds ws rows width count log) (row last n : ℕ) (hrow : row < rows)
     (fits : link_word rows row last < length ws) where
-  back-part : (j p : ℕ) → p < 3 → get_or (with_back ws (link_word rows row last) n) (rows + 4 * j + p) 0 ≡ get_or ws (rows + 4 * j + p) 0
-  back-part j p h = other ws (link_word rows row last) (rows + 4 * j + p) _ (link-part rows row hrow j p h last)
+  back_part : (j p : ℕ) → p < 3 → get_or (with_back ws (link_word rows row last) n) (rows + 4 * j + p) 0 ≡ get_or ws (rows + 4 * j + p) 0
+  back_part j p h = other ws (link_word rows row last) (rows + 4 * j + p) _ (link_part rows row hrow j p h last)
 
-  back-next : (i : ℕ) → next_in (get_or (with_back ws (link_word rows row last) n) i 0) ≡ next_in (get_or ws i 0)
-  back-next i = go (ℕ_discrete i (link_word rows row last))
+  back_next : (i : ℕ) → next_in (get_or (with_back ws (link_word rows row last) n) i 0) ≡ next_in (get_or ws i 0)
+  back_next i = go (ℕ_discrete i (link_word rows row last))
     where
       go : Dec (i ≡ link_word rows row last) → next_in (get_or (with_back ws (link_word rows row last) n) i 0) ≡ next_in (get_or ws i 0)
       go (yes e) = rw e (ap next_in (same ws (link_word rows row last) _ fits) ∙ next_links (next_in (get_or ws (link_word rows row last) 0)) n (omega arith))
@@ -97,27 +97,27 @@ module _ (ws : List ℕ) (rows width count : ℕ) (log : List Deposit) (P : Hold
   pub held_back : Holds (with_back ws (link_word rows row last) n) rows width count log
   held_back = record {
     pool =
-        same_pool (λ j. rw add-zero at (back-part j 0 (omega arith))) (λ j. back-part j 1 (omega arith)) (λ j. back-part j 2 (omega arith))
-        (λ r l. back-next (link_word rows r l)) P.pool;
+        same_pool (λ j. rw add-zero at (back_part j 0 (omega arith))) (λ j. back_part j 1 (omega arith)) (λ j. back_part j 2 (omega arith))
+        (λ r l. back_next (link_word rows r l)) P.pool;
   }
 
 -- ---- a deposit
 
 module _ (ws : List ℕ) (rows width count : ℕ) (log : List Deposit) (P : Holds ws rows width count log) (fits : rows + 4 * count ≤ length ws) where
   -- a deposit to a cell's place
-  pub held-again : (d : Deposit) (k : ℕ) → k < count → place_at ws rows k ≡ d.place → Holds (with_pair ws (rows + 4 * k) d.cover d.area) rows width count (log ++ (d ∷ []))
-  held-again d k hk e = record {
+  pub held_again : (d : Deposit) (k : ℕ) → k < count → place_at ws rows k ≡ d.place → Holds (with_pair ws (rows + 4 * k) d.cover d.area) rows width count (log ++ (d ∷ []))
+  held_again d k hk e = record {
     pool =
         subst (λ (f : ℕ → ℕ). Pool f (word ws' rows 1) (word ws' rows 2) (link_at ws' rows) rows width count (log ++ (d ∷ [])))
-        (sym (fun_ext (λ j. pair-else ws at d.cover d.area (rows + 4 * j) (omega arith) (omega arith))))
+        (sym (fun_ext (λ j. pair_else ws at d.cover d.area (rows + 4 * j) (omega arith) (omega arith))))
         (again (place_at ws rows) (word ws rows 1) (word ws rows 2) (link_at ws rows) rows width count log P.pool d k hk e
         (word ws' rows 1) (word ws' rows 2)
-        (pair-cover ws at d.cover d.area (omega arith))
-        (λ j ne. pair-else ws at d.cover d.area (rows + 4 * j + 1) (omega arith) (omega arith))
-        (pair-area ws at d.cover d.area (omega arith))
-        (λ j ne. pair-else ws at d.cover d.area (rows + 4 * j + 2) (omega arith) (omega arith))
+        (pair_cover ws at d.cover d.area (omega arith))
+        (λ j ne. pair_else ws at d.cover d.area (rows + 4 * j + 1) (omega arith) (omega arith))
+        (pair_area ws at d.cover d.area (omega arith))
+        (λ j ne. pair_else ws at d.cover d.area (rows + 4 * j + 2) (omega arith) (omega arith))
         (link_at ws' rows)
-        same-link);
+        same_link);
   }
     where
       at : ℕ
@@ -126,9 +126,9 @@ module _ (ws : List ℕ) (rows width count : ℕ) (log : List Deposit) (P : Hold
       ws' : List ℕ
       ws' = with_pair ws at d.cover d.area
 
-      same-link : (r l : ℕ) → r < rows → link_at ws' rows r l ≡ link_at ws rows r l
-      same-link r zero hr = ap next_in (pair-else ws at d.cover d.area r (omega arith) (omega arith))
-      same-link r (suc j) hr = ap next_in (pair-else ws at d.cover d.area (rows + 4 * j + 3) (omega arith) (omega arith))
+      same_link : (r l : ℕ) → r < rows → link_at ws' rows r l ≡ link_at ws rows r l
+      same_link r zero hr = ap next_in (pair_else ws at d.cover d.area r (omega arith) (omega arith))
+      same_link r (suc j) hr = ap next_in (pair_else ws at d.cover d.area (rows + 4 * j + 3) (omega arith) (omega arith))
 
   named_le : (row n : ℕ) → Named (place_at ws rows) count row n → n ≤ count
   named_le row zero m = omega arith
@@ -154,25 +154,25 @@ module _ (ws : List ℕ) (rows width count : ℕ) (log : List Deposit) (P : Hold
     ws' : List ℕ
     ws' = with_next cell lw (count + 1)
 
-    lw-lt : lw < at
+    lw_lt : lw < at
     unfolding lw at
-    lw-lt = link_word_lt rows row count last hrow (named_le row last o)
+    lw_lt = link_word_lt rows row count last hrow (named_le row last o)
 
     -- a word of an older cell that is no link, and of the new cell
-    else-part : (j p : ℕ) → p < 3 → j < count → get_or ws' (rows + 4 * j + p) 0 ≡ get_or ws (rows + 4 * j + p) 0
+    else_part : (j p : ℕ) → p < 3 → j < count → get_or ws' (rows + 4 * j + p) 0 ≡ get_or ws (rows + 4 * j + p) 0
     unfolding ws' cell lw at
-    else-part j p h hj =
-        other cell lw (rows + 4 * j + p) _ (link-part rows row hrow j p h last)
-        ∙ cell-before ws at d.place d.cover d.area (links_of next last) (rows + 4 * j + p) (omega arith)
+    else_part j p h hj =
+        other cell lw (rows + 4 * j + p) _ (link_part rows row hrow j p h last)
+        ∙ cell_before ws at d.place d.cover d.area (links_of next last) (rows + 4 * j + p) (omega arith)
 
-    new-part : (p v : ℕ) → get_or cell (at + p) 0 ≡ v → get_or ws' (at + p) 0 ≡ v
+    new_part : (p v : ℕ) → get_or cell (at + p) 0 ≡ v → get_or ws' (at + p) 0 ≡ v
     unfolding ws'
-    new-part p v e = other cell lw (at + p) _ (omega (arith, lw-lt)) ∙ e
+    new_part p v e = other cell lw (at + p) _ (omega (arith, lw_lt)) ∙ e
 
     -- another link's word
-    word-apart : (r l : ℕ) → r < rows → Named (place_at ws rows) count r l → ((r ≡ row) × (l ≡ last) → ⊥) → link_word rows r l ≡ lw → ⊥
+    word_apart : (r l : ℕ) → r < rows → Named (place_at ws rows) count r l → ((r ≡ row) × (l ≡ last) → ⊥) → link_word rows r l ≡ lw → ⊥
     unfolding lw
-    word-apart r l hr m ne = go l last m o ne
+    word_apart r l hr m ne = go l last m o ne
       where
         go : (l last : ℕ) → Named (place_at ws rows) count r l → Named (place_at ws rows) count row last → ((r ≡ row) × (l ≡ last) → ⊥)
             → link_word rows r l ≡ link_word rows row last → ⊥
@@ -183,32 +183,32 @@ module _ (ws : List ℕ) (rows width count : ℕ) (log : List Deposit) (P : Hold
             let q : j ≡ k = omega arith in
             ne (sym m.1 ∙ ap (λ (x : ℕ). place_at ws rows x / per_row) q ∙ o.1, ap suc q)
 
-    else-link : (r l : ℕ) → r < rows → Named (place_at ws rows) count r l → ((r ≡ row) × (l ≡ last) → ⊥) → link_at ws' rows r l ≡ link_at ws rows r l
+    else_link : (r l : ℕ) → r < rows → Named (place_at ws rows) count r l → ((r ≡ row) × (l ≡ last) → ⊥) → link_at ws' rows r l ≡ link_at ws rows r l
     unfolding ws' cell at
-    else-link r l hr m ne =
+    else_link r l hr m ne =
         ap next_in
-        (other cell lw (link_word rows r l) _ (word-apart r l hr m ne)
-        ∙ cell-before ws at d.place d.cover d.area (links_of next last) (link_word rows r l) (link_word_lt rows r count l hr (named_le r l m)))
+        (other cell lw (link_word rows r l) _ (word_apart r l hr m ne)
+        ∙ cell_before ws at d.place d.cover d.area (links_of next last) (link_word rows r l) (link_word_lt rows r count l hr (named_le r l m)))
 
-    length-cell : length cell ≡ length ws
+    length_cell : length cell ≡ length ws
     unfolding cell
-    length-cell = simp length-set
+    length_cell = simp length-set
 
-    held-anew : Holds ws' rows width (suc count) (log ++ (d ∷ []))
+    held_anew : Holds ws' rows width (suc count) (log ++ (d ∷ []))
     unfolding ws' cell next lw at
-    held-anew = record {
+    held_anew = record {
       pool =
           anew (place_at ws rows) (word ws rows 1) (word ws rows 2) (link_at ws rows) rows width count log P.pool d row last hrow o is_row column from to hc ha
           (place_at ws' rows) (word ws' rows 1) (word ws' rows 2) (link_at ws' rows)
-          (λ j h. rw add-zero at (else-part j 0 (omega arith) h))
-          (rw add-zero at (new-part 0 d.place (rw add-zero (cell-place ws at d.place d.cover d.area (links_of next last) more))))
-          (λ j h. else-part j 1 (omega arith) h)
-          (new-part 1 d.cover (cell-cover ws at d.place d.cover d.area (links_of next last) more))
-          (λ j h. else-part j 2 (omega arith) h)
-          (new-part 2 d.area (cell-area ws at d.place d.cover d.area (links_of next last) more))
-          else-link
-          (ap next_in (same cell lw _ (omega (arith, lw-lt, length-cell))) ∙ next_links (count + 1) (back_in (get_or cell lw 0)) few ∙ add-one count)
-          (λ r. ap next_in (new-part 3 (links_of next last) (cell-links ws at d.place d.cover d.area (links_of next last) more)) ∙ next_links next last (omega arith));
+          (λ j h. rw add-zero at (else_part j 0 (omega arith) h))
+          (rw add-zero at (new_part 0 d.place (rw add-zero (cell_place ws at d.place d.cover d.area (links_of next last) more))))
+          (λ j h. else_part j 1 (omega arith) h)
+          (new_part 1 d.cover (cell_cover ws at d.place d.cover d.area (links_of next last) more))
+          (λ j h. else_part j 2 (omega arith) h)
+          (new_part 2 d.area (cell_area ws at d.place d.cover d.area (links_of next last) more))
+          else_link
+          (ap next_in (same cell lw _ (omega (arith, lw_lt, length_cell))) ∙ next_links (count + 1) (back_in (get_or cell lw 0)) few ∙ add-one count)
+          (λ r. ap next_in (new_part 3 (links_of next last) (cell_links ws at d.place d.cover d.area (links_of next last) more)) ∙ next_links next last (omega arith));
     }
 
     -- with the two links back
@@ -217,7 +217,7 @@ module _ (ws : List ℕ) (rows width count : ℕ) (log : List Deposit) (P : Hold
     held_new =
         rw (le-ltb count (link_at ws rows row last) near)
         (held_back led rows width (suc count) (log ++ (d ∷ [])) one row (link_at ws rows row last) (count + 1) hrow
-        (omega (arith, link_word_lt rows row count (link_at ws rows row last) hrow near, length-led)))
+        (omega (arith, link_word_lt rows row count (link_at ws rows row last) hrow near, length_led)))
       where
         near : link_at ws rows row last ≤ count
         near = named_le row (link_at ws rows row last) (P.pool.links row last hrow o).named
@@ -226,7 +226,7 @@ module _ (ws : List ℕ) (rows width count : ℕ) (log : List Deposit) (P : Hold
         led = with_linked ws rows count row last d.place d.cover d.area
 
         one : Holds led rows width (suc count) (log ++ (d ∷ []))
-        one = held_back ws' rows width (suc count) (log ++ (d ∷ [])) held-anew row 0 (count + 1) hrow (simp length-set (omega arith))
+        one = held_back ws' rows width (suc count) (log ++ (d ∷ [])) held_anew row 0 (count + 1) hrow (simp length-set (omega arith))
 
-        length-led : length led ≡ length ws
-        length-led = simp length-set
+        length_led : length led ≡ length ws
+        length_led = simp length-set

@@ -4,7 +4,7 @@ use Rattle.std.proofs.Common.{◌≡◌, ℕ, zero, suc, ◌+◌, ◌*◌, ◌/�
 use native.Mathlib.Decide.{dec_lt, ℕ_discrete}
 use Rattle.storage.specs.Deposits.{per_row, Deposit, known, sum_of, cover_of, area_of}
 use Rattle.storage.specs.Cells.{Named, low, high, Link, Cell, Pool}
-use Rattle.storage.proofs.Sums.{known-here, known-other, known_more, known-again, distinct-again, distinct-new, sum-here, sum-other, sum_unknown}
+use Rattle.storage.proofs.Sums.{known_here, known_other, known_more, known_again, distinct_again, distinct_new, sum_here, sum_other, sum_unknown}
 
 -- ---- a link's places are its row's
 
@@ -29,25 +29,25 @@ module _ (place cover area : ℕ → ℕ) (link : ℕ → ℕ → ℕ) (rows wid
   in_row r l q h = omega (arith, low_row place count r l h.1, high_row place count r (link r l) (P.links r l h.0 h.1).named)
 
   -- the link behind a cell whose gap starts before another's is that one
-  not-before : (r l k q : ℕ) → In r l q → In r (suc k) q → low place r l ≤ place k → ⊥
-  not-before r l k q h h' a = no_cell k r (low place r l) (link r l) h'.1.0 (P.links r l h.0 h.1) a (omega arith)
+  not_before : (r l k q : ℕ) → In r l q → In r (suc k) q → low place r l ≤ place k → ⊥
+  not_before r l k q h h' a = no_cell k r (low place r l) (link r l) h'.1.0 (P.links r l h.0 h.1) a (omega arith)
 
-  same-last : (r l last q : ℕ) → In r l q → In r last q → l ≡ last
-  same-last r zero zero q h h' = refl
-  same-last r zero (suc k) q h h' = absurd (not-before r zero k q h h' (omega arith))
-  same-last r (suc k) zero q h h' = absurd (not-before r zero k q h' h (omega arith))
-  same-last r (suc j) (suc k) q h h' = go (dec_lt (place j) (place k)) (dec_lt (place k) (place j))
+  same_last : (r l last q : ℕ) → In r l q → In r last q → l ≡ last
+  same_last r zero zero q h h' = refl
+  same_last r zero (suc k) q h h' = absurd (not_before r zero k q h h' (omega arith))
+  same_last r (suc k) zero q h h' = absurd (not_before r zero k q h' h (omega arith))
+  same_last r (suc j) (suc k) q h h' = go (dec_lt (place j) (place k)) (dec_lt (place k) (place j))
     where
       go : Dec (place j < place k) → Dec (place k < place j) → suc j ≡ suc k
-      go (yes a) e = absurd (not-before r (suc j) k q h h' (omega arith))
-      go (no a) (yes e) = absurd (not-before r (suc k) j q h' h (omega arith))
+      go (yes a) e = absurd (not_before r (suc j) k q h h' (omega arith))
+      go (no a) (yes e) = absurd (not_before r (suc k) j q h' h (omega arith))
       go (no a) (no e) = ap suc (P.apart j k h.1.0 h'.1.0 (omega arith))
 
   -- two links whose gaps share a place are one
   one_link : (r l row last q : ℕ) → In r l q → In row last q → (r ≡ row) × (l ≡ last)
   one_link r l row last q h h' =
       let e : r ≡ row = sym (in_row r l q h) ∙ in_row row last q h' in
-      (e, same-last r l last q h (subst (λ (k : ℕ). In k last q) (sym e) h'))
+      (e, same_last r l last q h (subst (λ (k : ℕ). In k last q) (sym e) h'))
 
   -- ---- a deposit to a known place: what is known stays, and the cell's sums grow
   module _ (d : Deposit) (k : ℕ) (hk : k < count) (at : place k ≡ d.place) (cover' area' : ℕ → ℕ)
@@ -57,8 +57,8 @@ module _ (place cover area : ℕ → ℕ) (link : ℕ → ℕ → ℕ) (rows wid
     is_known : known log d.place ≡ true
     is_known = rw (← at) (P.cells k hk).given
 
-    again-link : (row lo n : ℕ) → Link place count log row lo n → Link place count (log ++ (d ∷ [])) row lo n
-    again-link row lo n l = record { named = l.named; above = l.above; gap = λ p a b. known-again d log p is_known ∙ l.gap p a b }
+    again_link : (row lo n : ℕ) → Link place count log row lo n → Link place count (log ++ (d ∷ [])) row lo n
+    again_link row lo n l = record { named = l.named; above = l.above; gap = λ p a b. known_again d log p is_known ∙ l.gap p a b }
 
     -- one of the two sums, which f reads off a deposit
     grown : (f : Deposit → ℕ) (v v' : ℕ → ℕ) → v' k ≡ (v k + f d) % 2 ^ 32 → ((j : ℕ) → (j ≡ k → ⊥) → v' j ≡ v j)
@@ -67,12 +67,12 @@ module _ (place cover area : ℕ → ℕ) (link : ℕ → ℕ → ℕ) (rows wid
       where
         go : Dec (j ≡ k) → v' j ≡ sum_of f (eqb (place j)) (log ++ (d ∷ []))
         go (yes e) =
-            rw e (here ∙ ap (λ (x : ℕ). (x + f d) % 2 ^ 32) (rw e at s) ∙ sym (sum-here f (eqb (place k)) d log (eq-eqb (place k) d.place at)))
+            rw e (here ∙ ap (λ (x : ℕ). (x + f d) % 2 ^ 32) (rw e at s) ∙ sym (sum_here f (eqb (place k)) d log (eq-eqb (place k) d.place at)))
         go (no e) =
-            else j e ∙ s ∙ sym (sum-other f (eqb (place j)) d log (ne_eqb (place j) d.place (λ q. e (P.apart j k hj hk (q ∙ sym at)))))
+            else j e ∙ s ∙ sym (sum_other f (eqb (place j)) d log (ne_eqb (place j) d.place (λ q. e (P.apart j k hj hk (q ∙ sym at)))))
 
-    again-cell : (j : ℕ) → j < count → Cell place cover' area' width (log ++ (d ∷ [])) j
-    again-cell j hj =
+    again_cell : (j : ℕ) → j < count → Cell place cover' area' width (log ++ (d ∷ [])) j
+    again_cell j hj =
         let C = P.cells j hj in
         record {
           given = known_more d log (place j) C.given;
@@ -83,10 +83,10 @@ module _ (place cover area : ℕ → ℕ) (link : ℕ → ℕ → ℕ) (rows wid
 
     pub again : Pool place cover' area' link' rows width count (log ++ (d ∷ []))
     again = record {
-      links = λ row last h o. rw (l-else row last h) (again-link row (low place row last) (link row last) (P.links row last h o));
-      cells = again-cell;
+      links = λ row last h o. rw (l-else row last h) (again_link row (low place row last) (link row last) (P.links row last h o));
+      cells = again_cell;
       apart = P.apart;
-      counted = P.counted ∙ sym (distinct-again d log is_known);
+      counted = P.counted ∙ sym (distinct_again d log is_known);
     }
 
   -- ---- a deposit to a new place: a cell more, behind last and before next
@@ -122,27 +122,27 @@ module _ (place cover area : ℕ → ℕ) (link : ℕ → ℕ → ℕ) (rows wid
     stays r lo n l out = record {
       named = named' r n l.named;
       above = rw (high' r n l.named) l.above;
-      gap = λ p a b. known-other d log p (λ e. out (rw e at a) (rw (e, high' r n l.named) at b)) ∙ l.gap p a (rw (high' r n l.named) at b);
+      gap = λ p a b. known_other d log p (λ e. out (rw e at a) (rw (e, high' r n l.named) at b)) ∙ l.gap p a (rw (high' r n l.named) at b);
     }
 
     abbrev Link' : ℕ → ℕ → ℕ → Type 0
     Link' r lo n = Link place' (suc count) (log ++ (d ∷ [])) r lo n
 
-    to-new : Link' row (low place row last) (suc count)
-    to-new = record {
+    to_new : Link' row (low place row last) (suc count)
+    to_new = record {
       named = (omega arith, ap (λ (x : ℕ). x / per_row) p-new ∙ is_row);
       above = rw p-new from;
-      gap = λ p a b. known-other d log p (omega arith) ∙ here.gap p a (omega arith);
+      gap = λ p a b. known_other d log p (omega arith) ∙ here.gap p a (omega arith);
     }
 
-    from-new : Link' row (d.place + 1) (link row last)
-    from-new =
+    from_new : Link' row (d.place + 1) (link row last)
+    from_new =
         stays row (d.place + 1) (link row last)
         (record { named = here.named; above = omega arith; gap = λ p a b. here.gap p (omega arith) b })
         (λ a b. omega arith)
 
-    old-link : (r l : ℕ) → r < rows → Named place count r l → Link' r (low place r l) (link' r l)
-    old-link r l hr m = go (ℕ_discrete r row) (ℕ_discrete l last)
+    old_link : (r l : ℕ) → r < rows → Named place count r l → Link' r (low place r l) (link' r l)
+    old_link r l hr m = go (ℕ_discrete r row) (ℕ_discrete l last)
       where
         other : ((r ≡ row) × (l ≡ last) → ⊥) → Link' r (low place r l) (link' r l)
         other ne =
@@ -150,19 +150,19 @@ module _ (place cover area : ℕ → ℕ) (link : ℕ → ℕ → ℕ) (rows wid
             (stays r (low place r l) (link r l) (P.links r l hr m) (λ a b. ne (one_link r l row last d.place (hr, m, a, b) (hrow, o, from, to))))
 
         go : Dec (r ≡ row) → Dec (l ≡ last) → Link' r (low place r l) (link' r l)
-        go (yes e) (yes f) = rw (e, f, l-last) to-new
+        go (yes e) (yes f) = rw (e, f, l-last) to_new
         go (yes e) (no f) = other (λ q. f q.1)
         go (no e) f = other (λ q. e q.0)
 
-    new-link : (r l : ℕ) → r < rows → Named place' (suc count) r l → Link' r (low place' r l) (link' r l)
-    new-link r zero hr m = old-link r zero hr tt
-    new-link r (suc j) hr m = go (ℕ_discrete j count)
+    new_link : (r l : ℕ) → r < rows → Named place' (suc count) r l → Link' r (low place' r l) (link' r l)
+    new_link r zero hr m = old_link r zero hr tt
+    new_link r (suc j) hr m = go (ℕ_discrete j count)
       where
         go : Dec (j ≡ count) → Link' r (place' j + 1) (link' r (suc j))
-        go (yes e) = rw (e, p-new, l-new, sym m.1 ∙ ap (λ (k : ℕ). place' k / per_row) e ∙ ap (λ (x : ℕ). x / per_row) p-new ∙ is_row) from-new
+        go (yes e) = rw (e, p-new, l-new, sym m.1 ∙ ap (λ (k : ℕ). place' k / per_row) e ∙ ap (λ (x : ℕ). x / per_row) p-new ∙ is_row) from_new
         go (no e) =
             let h : j < count = omega arith in
-            rw (p-else j h) (old-link r (suc j) hr (h, ap (λ (x : ℕ). x / per_row) (sym (p-else j h)) ∙ m.1))
+            rw (p-else j h) (old_link r (suc j) hr (h, ap (λ (x : ℕ). x / per_row) (sym (p-else j h)) ∙ m.1))
 
     -- one of the two sums
     kept : (f : Deposit → ℕ) (v v' : ℕ → ℕ) → f d < 2 ^ 32 → ((j : ℕ) → j < count → v' j ≡ v j) → v' count ≡ f d
@@ -171,14 +171,14 @@ module _ (place cover area : ℕ → ℕ) (link : ℕ → ℕ → ℕ) (rows wid
       where
         go : Dec (j ≡ count) → v' j ≡ sum_of f (eqb (place' j)) (log ++ (d ∷ []))
         go (yes e) =
-            rw (e, new, p-new, sum-here f (eqb d.place) d log (eq-eqb d.place d.place refl), sum_unknown f d.place log not_known) (omega arith)
+            rw (e, new, p-new, sum_here f (eqb d.place) d log (eq-eqb d.place d.place refl), sum_unknown f d.place log not_known) (omega arith)
         go (no e) =
             let h : j < count = omega arith in
             rw (else j h, p-else j h)
-            (old j h ∙ sym (sum-other f (eqb (place j)) d log (ne_eqb (place j) d.place (λ q. true≢false (sym (P.cells j h).given ∙ ap (known log) q ∙ not_known)))))
+            (old j h ∙ sym (sum_other f (eqb (place j)) d log (ne_eqb (place j) d.place (λ q. true≢false (sym (P.cells j h).given ∙ ap (known log) q ∙ not_known)))))
 
-    new-cell : (j : ℕ) → j < suc count → Cell place' cover' area' width (log ++ (d ∷ [])) j
-    new-cell j hj = record {
+    new_cell : (j : ℕ) → j < suc count → Cell place' cover' area' width (log ++ (d ∷ [])) j
+    new_cell j hj = record {
       given = go (ℕ_discrete j count);
       cover_sum = kept cover_of cover cover' hc c-else c-new (λ k h. (P.cells k h).cover_sum) j hj;
       area_sum = kept area_of area area' ha a-else a-new (λ k h. (P.cells k h).area_sum) j hj;
@@ -186,7 +186,7 @@ module _ (place cover area : ℕ → ℕ) (link : ℕ → ℕ → ℕ) (rows wid
     }
       where
         go : Dec (j ≡ count) → known (log ++ (d ∷ [])) (place' j) ≡ true
-        go (yes e) = rw (e, p-new) (known-here d log)
+        go (yes e) = rw (e, p-new) (known_here d log)
         go (no e) = let h : j < count = omega arith in rw (p-else j h) (known_more d log (place j) (P.cells j h).given)
 
         col : Dec (j ≡ count) → place' j % per_row ≤ width
@@ -211,8 +211,8 @@ module _ (place cover area : ℕ → ℕ) (link : ℕ → ℕ → ℕ) (rows wid
 
     pub anew : Pool place' cover' area' link' rows width (suc count) (log ++ (d ∷ []))
     anew = record {
-      links = new-link;
-      cells = new-cell;
+      links = new_link;
+      cells = new_cell;
       apart = new_apart;
-      counted = ap suc P.counted ∙ sym (distinct-new d log not_known);
+      counted = ap suc P.counted ∙ sym (distinct_new d log not_known);
     }

@@ -8,7 +8,7 @@ use Rattle.storage.specs.Deposits.{per_row, Deposit, given, known, distinct}
 use Rattle.storage.specs.Laws.{distinct_mono}
 use Rattle.storage.specs.Cells.{Named, low, high, Link, next_in, place_at, word, link_at, Holds, columns, Rising}
 use Rattle.storage.specs.Answers.{Room, Within, kept_of, Stored, Storing, Deposited}
-use Rattle.storage.proofs.Sums.{distinct-again}
+use Rattle.storage.proofs.Sums.{distinct_again}
 
 -- ---- a pool with no cells
 
@@ -51,36 +51,36 @@ exact ws rows width cap log Full h g = rw (lt-leb (distinct log) cap g)
 -- a pair for a known place never fails, and takes no cell
 pub known_kept : {ws : List ℕ} {rows width count : ℕ} {log : List Deposit} (ws' : List ℕ) (cap : ℕ) (d : Deposit) → count ≤ cap → Holds ws rows width count log → known log d.place ≡ true
     → (r : Kept) → Stored ws' rows width cap (log ++ (d ∷ [])) r → r ≡ Cells count
-known_kept {log = log} ws' cap d h P k (Cells n) s = ap Cells (s.pool.counted ∙ distinct-again d log k ∙ sym P.pool.counted)
-known_kept {log = log} ws' cap d h P k Full s = absurd (omega (arith, s, distinct-again d log k, P.pool.counted))
+known_kept {log = log} ws' cap d h P k (Cells n) s = ap Cells (s.pool.counted ∙ distinct_again d log k ∙ sym P.pool.counted)
+known_kept {log = log} ws' cap d h P k Full s = absurd (omega (arith, s, distinct_again d log k, P.pool.counted))
 
 -- ---- runs of deposits
 
 module _ {rows width cap count : ℕ} where
-  pub deposited-none : {ws : List ℕ} → count ≤ cap → Deposited ws ws rows width cap count [] (Cells count)
-  deposited-none {ws} h = record { long = refl; within = h; told = λ log P. rw append-nil P }
+  pub deposited_none : {ws : List ℕ} → count ≤ cap → Deposited ws ws rows width cap count [] (Cells count)
+  deposited_none {ws} h = record { long = refl; within = h; told = λ log P. rw append-nil P }
 
-  pub deposited-one : {ws ws' : List ℕ} {row column cover area : ℕ} {r : Kept} → column ≤ width → Storing ws ws' rows cap count row column cover area r
+  pub deposited_one : {ws ws' : List ℕ} {row column cover area : ℕ} {r : Kept} → column ≤ width → Storing ws ws' rows cap count row column cover area r
       → Deposited ws ws' rows width cap count (given row column cover area ∷ []) r
-  deposited-one h s = record { long = s.long; within = s.within; told = λ log P. s.told width log h P }
+  deposited_one h s = record { long = s.long; within = s.within; told = λ log P. s.told width log h P }
 
   module _ {ws ws' : List ℕ} {ds : List Deposit} where
     -- the same, of what a match has told of the answer
-    pub deposited-as : {r r' : Kept} → r ≡ r' → Deposited ws ws' rows width cap count ds r → Deposited ws ws' rows width cap count ds r'
-    deposited-as e a = subst (Deposited ws ws' rows width cap count ds) e a
+    pub deposited_as : {r r' : Kept} → r ≡ r' → Deposited ws ws' rows width cap count ds r → Deposited ws ws' rows width cap count ds r'
+    deposited_as e a = subst (Deposited ws ws' rows width cap count ds) e a
 
     -- a run behind a run that fitted
-    pub deposited-then : {ws'' : List ℕ} {es : List Deposit} {n : ℕ} {r : Kept} → Deposited ws ws' rows width cap count ds (Cells n) → Deposited ws' ws'' rows width cap n es r
+    pub deposited_then : {ws'' : List ℕ} {es : List Deposit} {n : ℕ} {r : Kept} → Deposited ws ws' rows width cap count ds (Cells n) → Deposited ws' ws'' rows width cap n es r
         → Deposited ws ws'' rows width cap count (ds ++ es) r
-    deposited-then {ws''} {es} {n} {r} a b = record {
+    deposited_then {ws''} {es} {n} {r} a b = record {
       long = b.long ∙ a.long;
       within = b.within;
       told = λ log P. subst (λ (l : List Deposit). Stored ws'' rows width cap l r) (append_assoc log ds es) (b.told (log ++ ds) (a.told log P));
     }
 
     -- what is too much stays too much
-    pub deposited-full : (es : List Deposit) → Deposited ws ws' rows width cap count ds Full → Deposited ws ws' rows width cap count (ds ++ es) Full
-    deposited-full es a = record {
+    pub deposited_full : (es : List Deposit) → Deposited ws ws' rows width cap count ds Full → Deposited ws ws' rows width cap count (ds ++ es) Full
+    deposited_full es a = record {
       long = a.long;
       within = tt;
       told = λ log P.
@@ -92,7 +92,7 @@ module _ {rows width cap count : ℕ} where
 pub deposited_more : {ws ws' ws'' : List ℕ} {rows width cap count n row column cover area : ℕ} {ds : List Deposit} {r : Kept}
     → Deposited ws ws' rows width cap count ds (Cells n) → column ≤ width → Storing ws' ws'' rows cap n row column cover area r
     → Deposited ws ws'' rows width cap count (ds ++ (given row column cover area ∷ [])) r
-deposited_more a h s = deposited-then a (deposited-one h s)
+deposited_more a h s = deposited_then a (deposited_one h s)
 
 -- a run into a pool with no cells
 pub whole : {ws ws' : List ℕ} {rows width cap : ℕ} {ds : List Deposit} {r : Kept} (rest : List ℕ) → ws ≡ replicate rows 0 ++ rest

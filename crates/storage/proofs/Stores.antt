@@ -5,8 +5,8 @@ use Rattle.storage.specs.declared.Kept.TheVariants.{Cells, Full}
 use Rattle.storage.specs.Deposits.{per_row, place_of, Deposit, given}
 use Rattle.storage.specs.Cells.{half, low, high, place_at, next_in, links_of, link_at, link_word, Holds, with_pair, with_cell, with_next, with_back, with_linked, with_new}
 use Rattle.storage.specs.Answers.{Sought, is_at, Stored}
-use Rattle.storage.proofs.Sums.{distinct-new}
-use Rattle.storage.proofs.Held.{held-again, held_back, held_new}
+use Rattle.storage.proofs.Sums.{distinct_new}
+use Rattle.storage.proofs.Held.{held_again, held_back, held_new}
 
 -- ---- insert
 
@@ -17,15 +17,15 @@ module _ (ws : List ℕ) (rows count row last place cover area : ℕ) where
     led : ws₃ ≡ with_linked ws rows count row last place cover area
     led = rw (e₃, e₂, e₁, g, f, e) refl
 
-    next-is : next ≡ link_at ws rows row last
-    next-is = rw (f, e) refl
+    next_is : next ≡ link_at ws rows row last
+    next_is = rw (f, e) refl
 
-    pub new-far : count < next → ws₃ ≡ with_new ws rows count row last place cover area
-    new-far h = led ∙ rw (lt-ltb count (link_at ws rows row last) (rw next-is at h)) refl
+    pub new_far : count < next → ws₃ ≡ with_new ws rows count row last place cover area
+    new_far h = led ∙ rw (lt-ltb count (link_at ws rows row last) (rw next_is at h)) refl
 
-    pub new-near : next ≤ count → {w : ℕ} {ws₄ : List ℕ} → w ≡ link_word rows row next → ws₄ ≡ with_back ws₃ w (count + 1)
+    pub new_near : next ≤ count → {w : ℕ} {ws₄ : List ℕ} → w ≡ link_word rows row next → ws₄ ≡ with_back ws₃ w (count + 1)
         → ws₄ ≡ with_new ws rows count row last place cover area
-    new-near h e₄ e₅ = rw (e₅, e₄, led, next-is, le-ltb count (link_at ws rows row last) (rw next-is at h)) refl
+    new_near h e₄ e₅ = rw (e₅, e₄, led, next_is, le-ltb count (link_at ws rows row last) (rw next_is at h)) refl
 
 -- ---- store
 
@@ -51,23 +51,23 @@ module _ (ws : List ℕ) (rows cap count row column cover area : ℕ) where
       (width : ℕ) (log : List Deposit) → column ≤ width → Holds ws rows width count log → Stored ws' rows width cap (log ++ (given row column cover area ∷ [])) r
 
   module _ (hrow : row < rows) (last : ℕ) (s : Sought ws rows count row (place_of row column) last) where
-    pub at-cell : rows + 4 * count ≤ length ws → is_at ws rows (place_of row column) last ≡ true
+    pub at_cell : rows + 4 * count ≤ length ws → is_at ws rows (place_of row column) last ≡ true
         → (ws₁ ws' : List ℕ) → ws₁ ≡ with_pair ws (rows + 4 * (last - 1)) cover area → ws' ≡ with_back ws₁ row last → Told ws' (Cells count)
-    at-cell fits i ws₁ ws' e f width log hw P =
+    at_cell fits i ws₁ ws' e f width log hw P =
         let k = is_at_true ws rows (place_of row column) last i in
         rw (f, e)
         (held_back (with_pair ws (rows + 4 * (last - 1)) cover area) rows width count (log ++ (given row column cover area ∷ []))
-        (held-again ws rows width count log P fits (given row column cover area) (last - 1) (omega (arith, k.0, s.within)) k.1)
+        (held_again ws rows width count log P fits (given row column cover area) (last - 1) (omega (arith, k.0, s.within)) k.1)
         row 0 last hrow (simp length-set (omega arith)))
 
     module _ (hcol : column < per_row) (i : is_at ws rows (place_of row column) last ≡ false) where
       from : (width : ℕ) (log : List Deposit) → Holds ws rows width count log → low (place_at ws rows) row last ≤ place_of row column
       from width log P = before_place ws rows row (place_of row column) last i (omega arith) (s.so width log P).0.1
 
-      pub at-full : cap ≤ count → Told ws Full
-      at-full h width log hw P =
+      pub at_full : cap ≤ count → Told ws Full
+      at_full h width log hw P =
           let L = P.pool.links row last hrow (s.so width log P).0.0 in
-          let n = distinct-new (given row column cover area) log (L.gap (place_of row column) (from width log P) (s.so width log P).1) in
+          let n = distinct_new (given row column cover area) log (L.gap (place_of row column) (from width log P) (s.so width log P).1) in
           omega (arith, P.pool.counted)
 
       pub at_gap : cover < 2 ^ 32 → area < 2 ^ 32 → rows + 4 * count + 3 < length ws → count + 1 < half

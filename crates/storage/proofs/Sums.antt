@@ -6,11 +6,11 @@ use Rattle.storage.specs.Laws.{total_append, sum_total, known_snoc, distinct_sno
 -- ---- known
 
 module _ (d : Deposit) (log : List Deposit) where
-  pub known-here : known (log ++ (d ∷ [])) d.place ≡ true
-  known-here = rw (known_snoc, eq-eqb d.place d.place refl)
+  pub known_here : known (log ++ (d ∷ [])) d.place ≡ true
+  known_here = rw (known_snoc, eq-eqb d.place d.place refl)
 
-  pub known-other : (p : ℕ) → (p ≡ d.place → ⊥) → known (log ++ (d ∷ [])) p ≡ known log p
-  known-other p h = rw (known_snoc, ne_eqb p d.place h)
+  pub known_other : (p : ℕ) → (p ≡ d.place → ⊥) → known (log ++ (d ∷ [])) p ≡ known log p
+  known_other p h = rw (known_snoc, ne_eqb p d.place h)
 
   pub known_more : (p : ℕ) → known log p ≡ true → known (log ++ (d ∷ [])) p ≡ true
   known_more p h = known_snoc log d p ∙ go (eqb p d.place)
@@ -20,37 +20,37 @@ module _ (d : Deposit) (log : List Deposit) where
       go false = h
 
   -- a place that was known leaves what is known as it was
-  pub known-again : (p : ℕ) → known log d.place ≡ true → known (log ++ (d ∷ [])) p ≡ known log p
-  known-again p h = known_snoc log d p ∙ go (eqb p d.place) refl
+  pub known_again : (p : ℕ) → known log d.place ≡ true → known (log ++ (d ∷ [])) p ≡ known log p
+  known_again p h = known_snoc log d p ∙ go (eqb p d.place) refl
     where
       go : (b : Bool) → eqb p d.place ≡ b → (b || known log p) ≡ known log p
       go true e = sym (rw (eqb-true p d.place e) h)
       go false e = refl
 
-  pub distinct-again : known log d.place ≡ true → distinct (log ++ (d ∷ [])) ≡ distinct log
-  distinct-again h = rw (distinct_snoc, h) (omega arith)
+  pub distinct_again : known log d.place ≡ true → distinct (log ++ (d ∷ [])) ≡ distinct log
+  distinct_again h = rw (distinct_snoc, h) (omega arith)
 
-  pub distinct-new : known log d.place ≡ false → distinct (log ++ (d ∷ [])) ≡ suc (distinct log)
-  distinct-new h = rw (distinct_snoc, h) (omega arith)
+  pub distinct_new : known log d.place ≡ false → distinct (log ++ (d ∷ [])) ≡ suc (distinct log)
+  distinct_new h = rw (distinct_snoc, h) (omega arith)
 
 -- ---- sums
 
 module _ (f : Deposit → ℕ) (t : ℕ → Bool) where
-  total-snoc : (d : Deposit) (log : List Deposit) → total f t (log ++ (d ∷ [])) ≡ total f t log + on (t d.place) (f d)
+  total_snoc : (d : Deposit) (log : List Deposit) → total f t (log ++ (d ∷ [])) ≡ total f t log + on (t d.place) (f d)
   unfolding total
-  total-snoc d log = omega (arith, total_append f t log (d ∷ []))
+  total_snoc d log = omega (arith, total_append f t log (d ∷ []))
 
   pub sum_lt : (log : List Deposit) → sum_of f t log < 2 ^ 32
   sum_lt log = omega (arith, sum_total f t log)
 
-  pub sum-here : (d : Deposit) (log : List Deposit) → t d.place ≡ true → sum_of f t (log ++ (d ∷ [])) ≡ (sum_of f t log + f d) % 2 ^ 32
-  sum-here d log h =
-      let e : total f t (log ++ (d ∷ [])) ≡ total f t log + f d = total-snoc d log ∙ ap (λ (b : Bool). total f t log + on b (f d)) h in
+  pub sum_here : (d : Deposit) (log : List Deposit) → t d.place ≡ true → sum_of f t (log ++ (d ∷ [])) ≡ (sum_of f t log + f d) % 2 ^ 32
+  sum_here d log h =
+      let e : total f t (log ++ (d ∷ [])) ≡ total f t log + f d = total_snoc d log ∙ ap (λ (b : Bool). total f t log + on b (f d)) h in
       omega (arith, sum_total f t log, sum_total f t (log ++ (d ∷ [])))
 
-  pub sum-other : (d : Deposit) (log : List Deposit) → t d.place ≡ false → sum_of f t (log ++ (d ∷ [])) ≡ sum_of f t log
-  sum-other d log h =
-      let e : total f t (log ++ (d ∷ [])) ≡ total f t log + 0 = total-snoc d log ∙ ap (λ (b : Bool). total f t log + on b (f d)) h in
+  pub sum_other : (d : Deposit) (log : List Deposit) → t d.place ≡ false → sum_of f t (log ++ (d ∷ [])) ≡ sum_of f t log
+  sum_other d log h =
+      let e : total f t (log ++ (d ∷ [])) ≡ total f t log + 0 = total_snoc d log ∙ ap (λ (b : Bool). total f t log + on b (f d)) h in
       omega (arith, sum_total f t log, sum_total f t (log ++ (d ∷ [])))
 
 -- a place that is not known has sum 0

@@ -15,9 +15,9 @@ module _ (ws : List ℕ) (rows row : ℕ) where
   place_of zero h = absurd (h refl)
   place_of (suc j) h = ap (λ (i : ℕ). get_or ws i 0) (omega arith)
 
-  pub link-of : (n : ℕ) → (n ≡ 0 → ⊥) → next_in (get_or ws (rows + 4 * (n - 1) + 3) 0) ≡ link_at ws rows row n
-  link-of zero h = absurd (h refl)
-  link-of (suc j) h = ap (λ (i : ℕ). next_in (get_or ws i 0)) (omega arith)
+  pub link_of : (n : ℕ) → (n ≡ 0 → ⊥) → next_in (get_or ws (rows + 4 * (n - 1) + 3) 0) ≡ link_at ws rows row n
+  link_of zero h = absurd (h refl)
+  link_of (suc j) h = ap (λ (i : ℕ). next_in (get_or ws i 0)) (omega arith)
 
   pub low_of : (n : ℕ) → (n ≡ 0 → ⊥) → low (place_at ws rows) row n ≡ high (place_at ws rows) row n + 1
   low_of zero h = absurd (h refl)
@@ -62,11 +62,11 @@ module _ {ws : List ℕ} {rows count row place : ℕ} (hrow : row < rows) (is_ro
     link_here width log P = rw w.reads (P.pool.links row last hrow (w.so width log P).0.0)
 
     -- the words are no pool's
-    no-pool : ((width : ℕ) (log : List Deposit) → Holds ws rows width count log → ⊥) → Sought ws rows count row place last
-    no-pool h = record { within = w.within; so = λ width log P. absurd (h width log P) }
+    no_pool : ((width : ℕ) (log : List Deposit) → Holds ws rows width count log → ⊥) → Sought ws rows count row place last
+    no_pool h = record { within = w.within; so = λ width log P. absurd (h width log P) }
 
     pub far : count < next → Sought ws rows count row place last
-    far h = no-pool (λ width log P. omega (arith, named_le (place_at ws rows) count row next (link_here width log P).named))
+    far h = no_pool (λ width log P. omega (arith, named_le (place_at ws rows) count row next (link_here width log P).named))
 
     -- the walk has come to the place
     ends : place < high (place_at ws rows) row next → Sought ws rows count row place last
@@ -76,23 +76,23 @@ module _ {ws : List ℕ} {rows count row place : ℕ} (hrow : row < rows) (is_ro
     done e = ends (rw e (omega arith))
 
     module _ {here : ℕ} (ne : next ≡ 0 → ⊥) (at : here ≡ get_or ws (rows + 4 * (next - 1)) 0) where
-      here-is : here ≡ high (place_at ws rows) row next
-      here-is = at ∙ place_of ws rows row next ne
+      here_is : here ≡ high (place_at ws rows) row next
+      here_is = at ∙ place_of ws rows row next ne
 
       pub past : place < here → Sought ws rows count row place last
-      past h = ends (rw (← here-is) h)
+      past h = ends (rw (← here_is) h)
 
       -- in a pool the list rises
       pub back : here < floor → Sought ws rows count row place last
-      back h = no-pool (λ width log P. omega (arith, here-is, (link_here width log P).above, (w.so width log P).1))
+      back h = no_pool (λ width log P. omega (arith, here_is, (link_here width log P).above, (w.so width log P).1))
 
       pub go_on : next ≤ count → here ≤ place → {after : ℕ} → after ≡ next_in (get_or ws (rows + 4 * (next - 1) + 3) 0) → Walk ws rows count row place next (here + 1) after
       go_on hn h e = record {
         within = hn;
-        reads = e ∙ link-of ws rows row next ne;
+        reads = e ∙ link_of ws rows row next ne;
         under = omega arith;
         so = λ width log P. (
-          ((link_here width log P).named, omega (arith, here-is, low_of ws rows row next ne)),
-          omega (arith, here-is, low_of ws rows row next ne),
+          ((link_here width log P).named, omega (arith, here_is, low_of ws rows row next ne)),
+          omega (arith, here_is, low_of ws rows row next ne),
         );
       }

@@ -22,17 +22,17 @@ module _ (a k : ℕ) (xs ys : List ℕ) (h : a + k ≤ length xs) (e : length ys
   first : length (take a xs) ≡ a
   first = length-take-le a xs (omega arith)
 
-  pub mid-before : (i : ℕ) → i < a → get_or (put_mid a k xs ys) i 0 ≡ get_or xs i 0
-  mid-before i g = get_or-append (take a xs) (ys ++ drop k (drop a xs)) 0 i (omega (arith, first)) ∙ get_or-take a xs i 0 g
+  pub mid_before : (i : ℕ) → i < a → get_or (put_mid a k xs ys) i 0 ≡ get_or xs i 0
+  mid_before i g = get_or-append (take a xs) (ys ++ drop k (drop a xs)) 0 i (omega (arith, first)) ∙ get_or-take a xs i 0 g
 
   mid_at : (x : ℕ) → get_or (put_mid a k xs ys) (a + x) 0 ≡ get_or (ys ++ drop k (drop a xs)) x 0
   mid_at x = ap (λ (n : ℕ). get_or (put_mid a k xs ys) (n + x) 0) (sym first) ∙ get_or-append-add (take a xs) (ys ++ drop k (drop a xs)) x 0
 
-  pub mid-inside : (x : ℕ) → x < k → get_or (put_mid a k xs ys) (a + x) 0 ≡ get_or ys x 0
-  mid-inside x g = mid_at x ∙ get_or-append ys (drop k (drop a xs)) 0 x (omega arith)
+  pub mid_inside : (x : ℕ) → x < k → get_or (put_mid a k xs ys) (a + x) 0 ≡ get_or ys x 0
+  mid_inside x g = mid_at x ∙ get_or-append ys (drop k (drop a xs)) 0 x (omega arith)
 
-  pub mid-behind : (i : ℕ) → a + k ≤ i → get_or (put_mid a k xs ys) i 0 ≡ get_or xs i 0
-  mid-behind i g =
+  pub mid_behind : (i : ℕ) → a + k ≤ i → get_or (put_mid a k xs ys) i 0 ≡ get_or xs i 0
+  mid_behind i g =
       ap (λ (n : ℕ). get_or (put_mid a k xs ys) n 0) p ∙ mid_at (length ys + (i - (a + k)))
       ∙ get_or-append-add ys (drop k (drop a xs)) (i - (a + k)) 0
       ∙ get_or-drop k (drop a xs) (i - (a + k)) 0 ∙ get_or-drop a xs (k + (i - (a + k))) 0
@@ -44,8 +44,8 @@ module _ (a k : ℕ) (xs ys : List ℕ) (h : a + k ≤ length xs) (e : length ys
       q : a + (k + (i - (a + k))) ≡ i
       q = omega arith
 
-  pub mid-long : length (put_mid a k xs ys) ≡ length xs
-  mid-long = simp (length-append, length-drop) (omega (arith, first))
+  pub mid_long : length (put_mid a k xs ys) ≡ length xs
+  mid_long = simp (length-append, length-drop) (omega (arith, first))
 
 -- ---- lines
 
@@ -61,36 +61,36 @@ module _ {ws d : List ℕ} {rows count width : ℕ} {fill : Fill} {up : Bool} {p
     inside : at + width ≤ length d'
     inside = omega (arith, L)
 
-    line-more : (ys : List ℕ) (row : ℕ) → length ys ≡ width → row ≡ row_at up rows l
+    line_more : (ys : List ℕ) (row : ℕ) → length ys ≡ width → row ≡ row_at up rows l
         → ((log : List Deposit) → Holds ws rows width count log → (x : ℕ) → x < width → get_or ys x 0 ≡ pixel fill log row x)
         → Lines ws d (put_mid at width d' ys) rows count width fill up pitch (l + 1) (at + pitch)
-    line-more ys row len is_row told = record {
+    line_more ys row len is_row told = record {
       top = omega arith;
       at_is = omega (arith, L.at_is);
-      long = mid-long at width d' ys inside len ∙ L.long;
+      long = mid_long at width d' ys inside len ∙ L.long;
       kept = λ i h. kept' i h (dec_lt i at) (dec_lt i (at + width));
       so = λ log P k x h g. so' log P k x h g (ℕ_discrete k l);
     }
       where
         kept' : (i : ℕ) → ((k x : ℕ) → k < l + 1 → x < width → i ≡ pitch * k + x → ⊥) → Dec (i < at) → Dec (i < at + width) → get_or (put_mid at width d' ys) i 0 ≡ get_or d i 0
-        kept' i h (yes a) b = mid-before at width d' ys inside len i a ∙ L.kept i (λ k x g. h k x (omega arith))
+        kept' i h (yes a) b = mid_before at width d' ys inside len i a ∙ L.kept i (λ k x g. h k x (omega arith))
         kept' i h (no a) (yes b) = absurd (h l (i - at) (omega arith) (omega arith) (omega (arith, L.at_is)))
-        kept' i h (no a) (no b) = mid-behind at width d' ys inside len i (omega arith) ∙ L.kept i (λ k x g. h k x (omega arith))
+        kept' i h (no a) (no b) = mid_behind at width d' ys inside len i (omega arith) ∙ L.kept i (λ k x g. h k x (omega arith))
 
         so' : (log : List Deposit) → Holds ws rows width count log → (k x : ℕ) → k < l + 1 → x < width → Dec (k ≡ l)
             → get_or (put_mid at width d' ys) (pitch * k + x) 0 ≡ pixel fill log (row_at up rows k) x
         so' log P k x h g (yes e) =
-            ap (λ (n : ℕ). get_or (put_mid at width d' ys) n 0) (omega (arith, L.at_is, ap (λ (n : ℕ). pitch * n) e)) ∙ mid-inside at width d' ys inside len x g
+            ap (λ (n : ℕ). get_or (put_mid at width d' ys) n 0) (omega (arith, L.at_is, ap (λ (n : ℕ). pitch * n) e)) ∙ mid_inside at width d' ys inside len x g
             ∙ told log P x g ∙ ap (λ (r : ℕ). pixel fill log r x) (is_row ∙ ap (row_at up rows) (sym e))
         so' log P k x h g (no e) =
-            mid-before at width d' ys inside len (pitch * k + x) (omega (arith, line_lt pitch k l (omega arith), L.at_is)) ∙ L.so log P k x (omega arith) g
+            mid_before at width d' ys inside len (pitch * k + x) (omega (arith, line_lt pitch k l (omega arith), L.at_is)) ∙ L.so log P k x (omega arith) g
 
     -- the same, with the part's length as the code has it
     pub lines_more : (n : ℕ) (ys : List ℕ) (row : ℕ) → n ≡ width → length ys ≡ n → row ≡ row_at up rows l
         → ((log : List Deposit) → Holds ws rows width count log → (x : ℕ) → x < width → get_or ys x 0 ≡ pixel fill log row x)
         → Lines ws d (put_mid at n d' ys) rows count width fill up pitch (l + 1) (at + pitch)
     lines_more n ys row e len is_row told =
-        subst (λ (m : ℕ). Lines ws d (put_mid at m d' ys) rows count width fill up pitch (l + 1) (at + pitch)) (sym e) (line-more ys row (len ∙ e) is_row told)
+        subst (λ (m : ℕ). Lines ws d (put_mid at m d' ys) rows count width fill up pitch (l + 1) (at + pitch)) (sym e) (line_more ys row (len ∙ e) is_row told)
 
 pub row_up : (up : Bool) (rows l r : ℕ) → up ≡ true → r ≡ rows - 1 - l → r ≡ row_at up rows l
 row_up up rows l r e h = rw e h

@@ -9,10 +9,10 @@ use Rattle.sweep.specs.Pixels.{pixel}
 use Rattle.sweep.specs.Masks.{row_at, byte_at, mask_from, Swept}
 
 module _ (fill : Fill) (log : List Deposit) (rows width : ℕ) (up : Bool) (pitch : ℕ) where
-  pub mask-long : (i : ℕ) (bs : List ℕ) → length (mask_from fill log rows width up pitch i bs) ≡ length bs
+  pub mask_long : (i : ℕ) (bs : List ℕ) → length (mask_from fill log rows width up pitch i bs) ≡ length bs
   unfolding mask_from
-  mask-long i [] = refl
-  mask-long i (b ∷ bs) = ap suc (mask-long (i + 1) bs)
+  mask_long i [] = refl
+  mask_long i (b ∷ bs) = ap suc (mask_long (i + 1) bs)
 
   pub mask_at : (i : ℕ) (bs : List ℕ) (k : ℕ) → k < length bs → get_or (mask_from fill log rows width up pitch i bs) k 0 ≡ byte_at fill log rows width up pitch (i + k) (get_or bs k 0)
   unfolding mask_from
@@ -47,9 +47,9 @@ module _ (fill : Fill) (log : List Deposit) (rows width : ℕ) (up : Bool) (pitc
   byte_is i (yes a) (no b) = let g : width ≤ i % pitch = omega arith in rw (lt-ltb (i / pitch) rows a, le-ltb (i % pitch) width g) (other i (λ k. b k.1))
   byte_is i (no a) b = let g : rows ≤ i / pitch = omega arith in rw (le-ltb (i / pitch) rows g) (other i (λ k. a k.0))
 
-  pub mask-by-bytes : after ≡ mask_from fill log rows width up pitch 0 before
-  mask-by-bytes =
-      ext_get_or 0 after (mask_from fill log rows width up pitch 0 before) (long ∙ sym (mask-long fill log rows width up pitch 0 before))
+  pub mask_by_bytes : after ≡ mask_from fill log rows width up pitch 0 before
+  mask_by_bytes =
+      ext_get_or 0 after (mask_from fill log rows width up pitch 0 before) (long ∙ sym (mask_long fill log rows width up pitch 0 before))
       (λ i h.
       let e : 0 + i ≡ i = omega arith in
       byte_is i (dec_lt (i / pitch) rows) (dec_lt (i % pitch) width)
@@ -58,4 +58,4 @@ module _ (fill : Fill) (log : List Deposit) (rows width : ℕ) (up : Bool) (pitc
 pub mask_is : {words before after : List ℕ} {rows count width : ℕ} {fill : Fill} {up : Bool} {pitch : ℕ} {log : List Deposit} → width ≤ pitch
     → Swept words before after rows count width fill up pitch → Holds words rows width count log → after ≡ mask_from fill log rows width up pitch 0 before
 mask_is {before = before} {after} {rows} {width = width} {fill} {up} {pitch} {log} fits S P =
-    mask-by-bytes fill log rows width up pitch before after fits S.long (S.painted log P) S.kept
+    mask_by_bytes fill log rows width up pitch before after fits S.long (S.painted log P) S.kept

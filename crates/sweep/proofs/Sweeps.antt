@@ -9,7 +9,7 @@ use Rattle.sweep.specs.Pixels.{signed, byte_of, cover_up_to, pixel}
 use Rattle.sweep.specs.Rows.{Painted, CellSwept}
 use Rattle.storage.proofs.Sums.{sum_unknown}
 use Rattle.sweep.proofs.Spans.{span, span_gap, span_more, span_none, span_upto}
-use Rattle.storage.proofs.Walk.{place_of, link-of, low_of, named_le}
+use Rattle.storage.proofs.Walk.{place_of, link_of, low_of, named_le}
 
 -- a link that is not 0 names a cell of the row
 named_at : (place : ℕ → ℕ) (count row n : ℕ) → (n ≡ 0 → ⊥) → Named place count row n → (n - 1 < count) × (place (n - 1) / per_row ≡ row)
@@ -77,11 +77,11 @@ module _ {ws d : List ℕ} {rows count row width : ℕ} {fill : Fill} (hrow : ro
             ∙ pixel_run fill log row at (width + 1) cover R.sum (λ q a b. R.link.gap q a (rw e (omega arith))) x (omega arith) (omega arith)
 
     module _ {here : ℕ} (ne : next ≡ 0 → ⊥) (e : here ≡ get_or ws (rows + 4 * (next - 1)) 0) where
-      here-is : here ≡ high (place_at ws rows) row next
-      here-is = e ∙ place_of ws rows row next ne
+      here_is : here ≡ high (place_at ws rows) row next
+      here_is = e ∙ place_of ws rows row next ne
 
       pub back : here < per_row * row + at → (log : List Deposit) → Holds ws rows width count log → ⊥
-      back h log P = omega (arith, here-is, (s.so log P).link.above)
+      back h log P = omega (arith, here_is, (s.so log P).link.above)
 
       pub outside : width < here - per_row * row → (log : List Deposit) → Holds ws rows width count log → ⊥
       outside h log P =
@@ -97,11 +97,11 @@ module _ {ws d : List ℕ} {rows count row width : ℕ} {fill : Fill} (hrow : ro
         C = P.pool.cells (next - 1) (named_at (place_at ws rows) count row next ne R.link.named).0
 
         gap : (p : ℕ) → per_row * row + at ≤ p → p < here → known log p ≡ false
-        gap p a b = R.link.gap p a (rw (← here-is) b)
+        gap p a b = R.link.gap p a (rw (← here_is) b)
 
         -- the sum with the cell's cover
-        sum-next : r ≡ sum_of cover_of (span (per_row * row) (here + 1)) log
-        sum-next =
+        sum_next : r ≡ sum_of cover_of (span (per_row * row) (here + 1)) log
+        sum_next =
             omega (
               arith,
               add,
@@ -112,16 +112,16 @@ module _ {ws d : List ℕ} {rows count row width : ℕ} {fill : Fill} (hrow : ro
             )
 
         -- the cell's pixel
-        pixel-cell : (x : ℕ) → x + 1 ≡ here - per_row * row → byte_of fill (signed ((512 * r + (2 ^ 32 - get_or ws (rows + 4 * (next - 1) + 2) 0)) % 2 ^ 32)) ≡ pixel fill log row x
-        pixel-cell x h =
+        pixel_cell : (x : ℕ) → x + 1 ≡ here - per_row * row → byte_of fill (signed ((512 * r + (2 ^ 32 - get_or ws (rows + 4 * (next - 1) + 2) 0)) % 2 ^ 32)) ≡ pixel fill log row x
+        pixel_cell x h =
             let q : here ≡ per_row * row + x + 1 = omega arith in
             pixel_is fill log row x r (get_or ws (rows + 4 * (next - 1) + 2) 0) ((512 * r + (2 ^ 32 - get_or ws (rows + 4 * (next - 1) + 2) 0)) % 2 ^ 32)
-            (sum-next ∙ ap (λ (p : ℕ). sum_of cover_of (span (per_row * row) (p + 1)) log) q)
+            (sum_next ∙ ap (λ (p : ℕ). sum_of cover_of (span (per_row * row) (p + 1)) log) q)
             (C.area_sum ∙ ap (λ (p : ℕ). sum_of area_of (eqb p) log) (sym e ∙ q))
             refl
 
-        next-link : {after : ℕ} → after ≡ next_in (get_or ws (rows + 4 * (next - 1) + 3) 0) → Link (place_at ws rows) count log row (here + 1) after
-        next-link f = rw (f, link-of ws rows row next ne, here-is, ← low_of ws rows row next ne) (P.pool.links row next hrow R.link.named)
+        next_link : {after : ℕ} → after ≡ next_in (get_or ws (rows + 4 * (next - 1) + 3) 0) → Link (place_at ws rows) count log row (here + 1) after
+        next_link f = rw (f, link_of ws rows row next ne, here_is, ← low_of ws rows row next ne) (P.pool.links row next hrow R.link.named)
 
       pub more : {d'' : List ℕ} {r after : ℕ} → per_row * row + at ≤ here → here - per_row * row ≤ width
           → CellSwept ws (rows + 4 * (next - 1)) d' d'' at (here - per_row * row) cover fill r
@@ -132,8 +132,8 @@ module _ {ws d : List ℕ} {rows count row width : ℕ} {fill : Fill} (hrow : ro
         long = len ∙ s.long;
         behind = λ x h. p.behind x (omega arith) ∙ s.behind x h;
         so = λ log P. record {
-          link = rw at_here (next-link log P from p.sum f);
-          sum = rw at_here (sum-next log P from p.sum);
+          link = rw at_here (next_link log P from p.sum f);
+          sum = rw at_here (sum_next log P from p.sum);
           done = λ x h. go log P x h (dec_lt (x + 1) at) (ℕ_discrete (x + 1) (here - per_row * row));
         };
       }
@@ -144,7 +144,7 @@ module _ {ws d : List ℕ} {rows count row width : ℕ} {fill : Fill} (hrow : ro
           go : (log : List Deposit) → Holds ws rows width count log → (x : ℕ) → x + 1 < here - per_row * row + 1 → Dec (x + 1 < at) → Dec (x + 1 ≡ here - per_row * row)
               → get_or d'' x 0 ≡ pixel fill log row x
           go log P x h (yes g) k = p.before x g ∙ (s.so log P).done x g
-          go log P x h (no g) (yes k) = p.here x k ∙ pixel-cell log P from p.sum x k
+          go log P x h (no g) (yes k) = p.here x k ∙ pixel_cell log P from p.sum x k
           go log P x h (no g) (no k) =
               p.inside x (omega arith) (omega arith)
               ∙ pixel_run fill log row at (here - per_row * row) cover (s.so log P).sum (λ q a b. gap log P from p.sum q a (omega arith)) x (omega arith) (omega arith)

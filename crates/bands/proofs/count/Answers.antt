@@ -6,17 +6,17 @@ use borrow.Author.Rules.{rules}
 use Rattle.label.proofs.Pouring.{pours}
 use Rattle.claims.specs.Bands.{band_of}
 use Rattle.bands.specs.InBands.{band_end}
-use Rattle.bands.proofs.Rows.{band-sized}
-use Rattle.bands.proofs.Counting.{Counting, counting-none, counting_more, counted-all, counted-full}
+use Rattle.bands.proofs.Rows.{band_sized}
+use Rattle.bands.proofs.Counting.{Counting, counting_none, counting_more, counted_all, counted_full}
 use Rattle.bands.proofs.count.Goals as goal
 
 pub loop-at-init : goal.loop-at-init
 loop-at-init c =
-    (refl, counting-none c.args.l c.requires.sized _ _ _)
+    (refl, counting_none c.args.l c.requires.sized _ _ _)
 
 pub returns-in-Full : goal.returns-in-Full
 returns-in-Full c =
-    counted-full c.args.l c.requires.sized _ _ _ c.requires.steps _ _ c.loop-at.invariant.1 c.loop-at-test.true _ _ _ c.loop-at.invariant.0 (rw c.band_end-next.ensures at c.pour.ensures) _
+    counted_full c.args.l c.requires.sized _ _ _ c.requires.steps _ _ c.loop-at.invariant.1 c.loop-at-test.true _ _ _ c.loop-at.invariant.0 (rw c.band_end-next.ensures at c.pour.ensures) _
     c.in-Full.is
 
 pub loop-at-preserved : goal.loop-at-preserved
@@ -28,4 +28,4 @@ loop-at-preserved c =
 
 pub returns : goal.returns
 returns c =
-    counted-all c.args.l c.requires.sized _ _ _ _ _ c.loop-at.invariant.1 c.loop-at-test.false
+    counted_all c.args.l c.requires.sized _ _ _ _ _ c.loop-at.invariant.1 c.loop-at-test.false

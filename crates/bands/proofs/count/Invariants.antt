@@ -7,8 +7,8 @@ use borrow.Author.Rules.{rules}
 use Rattle.label.proofs.Pouring.{pours}
 use Rattle.claims.specs.Bands.{band_of}
 use Rattle.bands.specs.InBands.{band_end}
-use Rattle.bands.proofs.Rows.{band-sized}
-use Rattle.bands.proofs.Counting.{Counting, counting-none, counting_more, counted-all, counted-full}
+use Rattle.bands.proofs.Rows.{band_sized}
+use Rattle.bands.proofs.Counting.{Counting, counting_none, counting_more, counted_all, counted_full}
 use Rattle.bands.proofs.count.Given as goal
 
 abbrev pub invariant-loop-at : goal.invariant-loop-at

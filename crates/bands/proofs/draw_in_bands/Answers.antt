@@ -2,7 +2,7 @@
 use mathlib.Core.Path.{sym, ◌∙◌}
 use native.Mathlib.Omega.{arith}
 use lib.ListN.{length}
-use Rattle.label.proofs.Sizes.{fitting, short-list}
+use Rattle.label.proofs.Sizes.{fitting, short_list}
 use Rattle.label.proofs.Drawing.{turned, faulty, drawn}
 use Rattle.bands.proofs.Whole.{promised}
 use borrow.Author.Rules.{rules}
@@ -10,13 +10,13 @@ use Rattle.bands.proofs.draw_in_bands.Goals as goal
 
 pub judge-requires : goal.judge-requires
 judge-requires c =
-    short-list c.args.l _ (length c.args.mask.now) (length c.args.words.now) (sym c.check.ensures ∙ c.in-Fine.is)
+    short_list c.args.l _ (length c.args.mask.now) (length c.args.words.now) (sym c.check.ensures ∙ c.in-Fine.is)
 
 pub ink-requires : goal.ink-requires
 ink-requires c =
     let q = sym c.check.ensures ∙ c.in-Fine.is in
     let f = fitting c.args.l (length c.args.list.now) (length c.args.mask.now) (length c.args.words.now) q in
-    record { sized = f.sized; lent = f.lent; steps = omega (arith, c.rows_of.ensures); few_bytes = short-list c.args.l _ (length c.args.mask.now) (length c.args.words.now) q }
+    record { sized = f.sized; lent = f.lent; steps = omega (arith, c.rows_of.ensures); few_bytes = short_list c.args.l _ (length c.args.mask.now) (length c.args.words.now) q }
 
 pub returns-in-Faulty : goal.returns-in-Faulty
 returns-in-Faulty c =

@@ -7,8 +7,8 @@ use lib.ListN.{length}
 use Rattle.label.specs.declared.Label.{Label}
 use Rattle.label.specs.Checks.{most_pixels, most_pitch}
 use Rattle.bands.specs.Steps.{line_of}
-use Rattle.bands.proofs.Rows.{band-sized}
-use Rattle.bands.proofs.Painting.{Painting, painting_none, part_in, part-near, part-lent, painting-again, painted-all}
+use Rattle.bands.proofs.Rows.{band_sized}
+use Rattle.bands.proofs.Painting.{Painting, painting_none, part_in, part_near, part_lent, painting_again, painted_all}
 use Rattle.bands.proofs.paint.Given as goal
 
 abbrev pub invariant-loop-at : goal.invariant-loop-at

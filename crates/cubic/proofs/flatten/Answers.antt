@@ -3,16 +3,16 @@ use native.Mathlib.Omega.{arith}
 use borrow.Author.Rules.{rules}
 use Rattle.fixed.specs.Split.{point_of}
 use Rattle.line.specs.Lines.{along}
-use Rattle.pen.proofs.Adding.{still-ready}
+use Rattle.pen.proofs.Adding.{still_ready}
 use Rattle.cubic.specs.Cubics.{cubic_points}
 use Rattle.cubic.proofs.Run.{steps}
 use Rattle.cubic.proofs.Stack.{stack}
-use Rattle.cubic.proofs.Going.{Going, going-started, going-split, going-drawn, going_done, split-less, drawn-less, room}
+use Rattle.cubic.proofs.Going.{Going, going_started, going_split, going_drawn, going_done, split_less, drawn_less, room}
 use Rattle.cubic.proofs.flatten.Goals as goal
 
 pub loop-arc-init : goal.loop-arc-init
 loop-arc-init c =
-    going-started _ _ _ _ c.requires.reach_a c.requires.reach_c c.requires.reach_d c.requires.reach_b _ _ _ _ c.requires.within
+    going_started _ _ _ _ c.requires.reach_a c.requires.reach_c c.requires.reach_d c.requires.reach_b _ _ _ _ c.requires.within
 
 pub returns-then-top-gt-PLACES : goal.returns-then-top-gt-PLACES
 returns-then-top-gt-PLACES c =
@@ -22,12 +22,12 @@ returns-then-top-gt-PLACES c =
 pub loop-arc-smaller-then-is_curved : goal.loop-arc-smaller-then-is_curved
 loop-arc-smaller-then-is_curved c =
     let s = c.loop-arc in
-    split-less s.arc s.top s.invariant.standing (sym c.is_curved.ensures ∙ c.if-is_curved.true) c.split_cubic-seven.result c.split_cubic-seven.ensures
+    split_less s.arc s.top s.invariant.standing (sym c.is_curved.ensures ∙ c.if-is_curved.true) c.split_cubic-seven.result c.split_cubic-seven.ensures
 
 pub loop-arc-preserved-then-is_curved : goal.loop-arc-preserved-then-is_curved
 loop-arc-preserved-then-is_curved c =
     let s = c.loop-arc in
-    going-split _ _ _ _ _ s.ws s.arc s.top s.pen s.from s.invariant c.split_cubic-seven.result (sym c.is_curved.ensures ∙ c.if-is_curved.true)
+    going_split _ _ _ _ _ s.ws s.arc s.top s.pen s.from s.invariant c.split_cubic-seven.result (sym c.is_curved.ensures ∙ c.if-is_curved.true)
     c.split_cubic-seven.ensures
 
 pub returns-then-top-eq0 : goal.returns-then-top-eq0
@@ -39,10 +39,10 @@ returns-then-top-eq0 c =
 pub loop-arc-smaller : goal.loop-arc-smaller
 loop-arc-smaller c =
     let s = c.loop-arc in
-    drawn-less s.arc s.top s.invariant.standing (sym c.is_curved.ensures ∙ c.if-is_curved.false) (omega arith)
+    drawn_less s.arc s.top s.invariant.standing (sym c.is_curved.ensures ∙ c.if-is_curved.false) (omega arith)
 
 pub loop-arc-preserved : goal.loop-arc-preserved
 loop-arc-preserved c =
     let s = c.loop-arc in
-    going-drawn _ _ _ _ _ s.ws s.arc s.top s.pen s.from s.invariant _ _ (sym c.is_curved.ensures ∙ c.if-is_curved.false) c.line_to-pen.ensures
+    going_drawn _ _ _ _ _ s.ws s.arc s.top s.pen s.from s.invariant _ _ (sym c.is_curved.ensures ∙ c.if-is_curved.false) c.line_to-pen.ensures
     (omega arith)

@@ -7,7 +7,7 @@ use lib.Ieee.{binary32, fits}
 use denote.Floats.{passes}
 use borrow.Author.Rules.{rules}
 use Rattle.float.proofs.Fitting.{near_small, whole_in_float}
-use Rattle.float.proofs.Rounding.{floor-below, floor-above, floor-whole, floor-far}
+use Rattle.float.proofs.Rounding.{floor_below, floor_above, floor_whole, floor_far}
 use Rattle.float.proofs.floor.Goals as goal
 
 pub overflow_add-result : goal.overflow_add-result
@@ -21,7 +21,7 @@ int_to_float-result c =
 pub returns-then-below : goal.returns-then-below
 returns-then-below c =
     let fitting : T (fits binary32 c.args.v) = passes _ c.well_formed.0.1 in
-    floor-below _ _ (fitting) c.cut_float.ensures _ _ _ c.in-Near.is c.if-rest.true c.if-below.true
+    floor_below _ _ (fitting) c.cut_float.ensures _ _ _ c.in-Near.is c.if-rest.true c.if-below.true
 
 pub int_to_float-result-then-rest : goal.int_to_float-result-then-rest
 int_to_float-result-then-rest c =
@@ -30,13 +30,13 @@ int_to_float-result-then-rest c =
 pub returns-then-rest : goal.returns-then-rest
 returns-then-rest c =
     let fitting : T (fits binary32 c.args.v) = passes _ c.well_formed.0.1 in
-    floor-above _ _ (fitting) c.cut_float.ensures _ _ _ c.in-Near.is c.if-rest.true c.if-below.false
+    floor_above _ _ (fitting) c.cut_float.ensures _ _ _ c.in-Near.is c.if-rest.true c.if-below.false
 
 pub returns-else-rest : goal.returns-else-rest
 returns-else-rest c =
     let fitting : T (fits binary32 c.args.v) = passes _ c.well_formed.0.1 in
-    floor-whole _ _ (fitting) c.cut_float.ensures _ _ _ c.in-Near.is c.if-rest.false
+    floor_whole _ _ (fitting) c.cut_float.ensures _ _ _ c.in-Near.is c.if-rest.false
 
 pub returns-in-Far : goal.returns-in-Far
 returns-in-Far c =
-    let fitting : T (fits binary32 c.args.v) = passes _ c.well_formed.0.1 in floor-far _ _ (fitting) c.cut_float.ensures c.in-Far.is
+    let fitting : T (fits binary32 c.args.v) = passes _ c.well_formed.0.1 in floor_far _ _ (fitting) c.cut_float.ensures c.in-Far.is

@@ -1,6 +1,6 @@
 -- One law of `Sizes` for each test.
 use mathlib.Core.Path.{sym, ◌∙◌}
-use Rattle.label.proofs.Sizes.{too_wide, too_high, turned-band, band_below, low_pitch, high_pitch, short_mask, few_words, all_fit}
+use Rattle.label.proofs.Sizes.{too_wide, too_high, turned_band, band_below, low_pitch, high_pitch, short_mask, few_words, all_fit}
 use borrow.Author.Rules.{rules}
 use Rattle.label.proofs.check_sizes.Goals as goal
 
@@ -12,7 +12,7 @@ returns-then-l-gt-MOST_PIXELS-2 c = too_high _ _ _ c.if-l-gt-MOST_PIXELS.false c
 
 pub returns-then-l : goal.returns-then-l
 returns-then-l c =
-    turned-band _ _ _ c.if-l-gt-MOST_PIXELS.false c.if-l-gt-MOST_PIXELS-2.false c.if-l.true
+    turned_band _ _ _ c.if-l-gt-MOST_PIXELS.false c.if-l-gt-MOST_PIXELS-2.false c.if-l.true
 
 pub returns-then-l-2 : goal.returns-then-l-2
 returns-then-l-2 c =

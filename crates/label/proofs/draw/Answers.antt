@@ -1,20 +1,20 @@
 -- The checks, then the judging, then the ink: each answer is a case of `draw_of`.
 use mathlib.Core.Path.{sym, ◌∙◌}
 use lib.ListN.{length}
-use Rattle.label.proofs.Sizes.{fitting, short-list}
+use Rattle.label.proofs.Sizes.{fitting, short_list}
 use Rattle.label.proofs.Drawing.{draw_is, turned, faulty, drawn}
 use borrow.Author.Rules.{rules}
 use Rattle.label.proofs.draw.Goals as goal
 
 pub judge-requires : goal.judge-requires
 judge-requires c =
-    short-list c.args.l _ (length c.args.mask.now) (length c.args.words.now) (sym c.check.ensures ∙ c.in-Fine.is)
+    short_list c.args.l _ (length c.args.mask.now) (length c.args.words.now) (sym c.check.ensures ∙ c.in-Fine.is)
 
 pub ink-requires : goal.ink-requires
 ink-requires c =
     let q = sym c.check.ensures ∙ c.in-Fine.is in
     let f = fitting c.args.l (length c.args.list.now) (length c.args.mask.now) (length c.args.words.now) q in
-    record { sized = f.sized; lent = f.lent; few_bytes = short-list c.args.l _ (length c.args.mask.now) (length c.args.words.now) q }
+    record { sized = f.sized; lent = f.lent; few_bytes = short_list c.args.l _ (length c.args.mask.now) (length c.args.words.now) q }
 
 pub returns-in-Faulty : goal.returns-in-Faulty
 returns-in-Faulty c =

@@ -1,13 +1,13 @@
 -- What was poured is told by the answer: a full pool is 13, else the rows are swept; the words are wiped either way.
 use native.Mathlib.Omega.{arith}
-use Rattle.label.proofs.Pouring.{pours, few_cells, early-record, sweeps, inked-full, inked-cells}
+use Rattle.label.proofs.Pouring.{pours, few_cells, early_record, sweeps, inked_full, inked_cells}
 use borrow.Author.Rules.{rules}
 use Rattle.label.proofs.ink.Goals as goal
 
 pub returns-in-Full : goal.returns-in-Full
 returns-in-Full c =
-    inked-full c.args.l c.requires.sized _ _ _ _ _ _ _ _ c.in-Full.is c.pour.ensures _ c.wipe.ensures
+    inked_full c.args.l c.requires.sized _ _ _ _ _ _ _ _ c.in-Full.is c.pour.ensures _ c.wipe.ensures
 
 pub returns-in-Cells : goal.returns-in-Cells
 returns-in-Cells c =
-    inked-cells c.args.l c.requires.sized _ _ _ _ _ _ _ _ c.in-Cells.is c.pour.ensures _ c.sweep.ensures _ c.wipe-in-Cells.ensures
+    inked_cells c.args.l c.requires.sized _ _ _ _ _ _ _ _ c.in-Cells.is c.pour.ensures _ c.sweep.ensures _ c.wipe-in-Cells.ensures

@@ -1,9 +1,9 @@
 -- A pair is given, and then the next cell entered.
-use Rattle.pen.proofs.Adding.{drew-then, drew-give}
+use Rattle.pen.proofs.Adding.{drew_then, drew_give}
 use borrow.Author.Rules.{rules}
 use Rattle.line.proofs.cross.Goals as goal
 
 pub returns : goal.returns
 returns c =
     let g = c.give-given.ensures in
-    drew-then _ _ (drew-give _ _ _ _ c.requires.within g.0 g.1) c.set_cell.ensures
+    drew_then _ _ (drew_give _ _ _ _ c.requires.within g.0 g.1) c.set_cell.ensures

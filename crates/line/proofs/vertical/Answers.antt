@@ -3,7 +3,7 @@ use mathlib.Core.List.{[]}
 use lib.Dec.{ltb}
 use native.Mathlib.Omega.{arith}
 use borrow.Author.Rules.{rules}
-use Rattle.pen.proofs.Adding.{drew-then, drew-none, drew-give, still-ready}
+use Rattle.pen.proofs.Adding.{drew_then, drew_none, drew_give, still_ready}
 use Rattle.line.specs.declared.At.{At}
 use Rattle.line.specs.Walk.{upright, row_side}
 use Rattle.line.specs.Course.{rows_to}
@@ -18,7 +18,7 @@ loop-at-init c =
       few = rw e (let h = c.requires.bounded.by1 in omega arith);
       level = rw e (row_start c.args.l);
       done = [];
-      drew = drew-none _ _ c.requires.within;
+      drew = drew_none _ _ c.requires.within;
       same = refl;
     }
 
@@ -37,7 +37,7 @@ loop-at-preserved c =
       few = row_few b h.at l c.requires.bounded.by2 i.few v;
       level = v;
       done = _;
-      drew = drew-then _ _ i.drew (rw (e, c.row_side-out.ensures) at c.cross-drawn.ensures);
+      drew = drew_then _ _ i.drew (rw (e, c.row_side-out.ensures) at c.cross-drawn.ensures);
       same = drawn_more i.done _ _ i.same (upright_step l b h.at i.level n);
     })
 
@@ -49,4 +49,4 @@ returns c =
     drew_as
     (drawn_all i.done i.same (upright_last l (ltb l.y1 l.y2) _ c.loop-at-test.false)
     ∙ ap (λ (a : At). upright (rows_to l a.row) (row_side l) l a) c.begin-at.ensures)
-    (drew-then _ _ i.drew (drew-give _ _ _ _ i.drew.within g.0 g.1))
+    (drew_then _ _ i.drew (drew_give _ _ _ _ i.drew.within g.0 g.1))

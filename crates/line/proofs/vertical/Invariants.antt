@@ -4,7 +4,7 @@ use mathlib.Core.List.{[]}
 use lib.Dec.{ltb}
 use native.Mathlib.Omega.{arith}
 use borrow.Author.Rules.{rules}
-use Rattle.pen.proofs.Adding.{drew-then, drew-none, drew-give, still-ready}
+use Rattle.pen.proofs.Adding.{drew_then, drew_none, drew_give, still_ready}
 use Rattle.line.specs.declared.At.{At}
 use Rattle.line.specs.Walk.{upright, row_side}
 use Rattle.line.specs.Course.{rows_to}

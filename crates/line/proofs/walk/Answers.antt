@@ -4,7 +4,7 @@ use mathlib.Core.List.{[]}
 use native.Mathlib.Omega.{arith}
 use borrow.Author.Tests.{eqb-true, eqb-false, not-true, not-false}
 use Rattle.float.specs.Differences.{◌⊖◌}
-use Rattle.pen.proofs.Adding.{drew-then, drew-none, drew-give, still-ready}
+use Rattle.pen.proofs.Adding.{drew_then, drew_none, drew_give, still_ready}
 use Rattle.line.specs.Walk.{crossed}
 use Rattle.line.specs.Course.{B, togo}
 use Rattle.line.proofs.Walking.{Running, drawn_more, drawn_all, drew_as, crossed_step, crossed_last, far_x, far_y}
@@ -12,7 +12,7 @@ use Rattle.line.proofs.walk.Goals as goal
 
 pub loop-here-init : goal.loop-here-init
 loop-here-init c =
-    record { under = c.requires.under; done = []; drew = drew-none _ _ c.requires.within; same = refl }
+    record { under = c.requires.under; done = []; drew = drew_none _ _ c.requires.within; same = refl }
 
 pub loop-here-preserved : goal.loop-here-preserved
 loop-here-preserved c =
@@ -21,7 +21,7 @@ loop-here-preserved c =
     record {
       under = t.under;
       done = _;
-      drew = drew-then _ _ i.drew c.cross-drawn.ensures;
+      drew = drew_then _ _ i.drew c.cross-drawn.ensures;
       same = drawn_more i.done _ _ i.same (crossed_step _ _ _ _ t);
     }
 
@@ -31,4 +31,4 @@ returns c =
     let g = c.give.ensures in
     drew_as
     (drawn_all i.done i.same (crossed_last _ _ _ c.if-here-col.false c.if-here-row.false))
-    (drew-then _ _ i.drew (drew-give _ _ _ _ i.drew.within g.0 g.1))
+    (drew_then _ _ i.drew (drew_give _ _ _ _ i.drew.within g.0 g.1))

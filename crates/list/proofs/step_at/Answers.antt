@@ -1,7 +1,7 @@
 -- `list::step_at` meets its contract: each answer is the case of `step_at` that its tests lead to. Assumes nothing.
 use mathlib.Core.Path.{◌∙◌}
 use native.Mathlib.Omega.{arith}
-use Rattle.list.proofs.Cases.{ended, header-cut, header-whole}
+use Rattle.list.proofs.Cases.{ended, header_cut, header_whole}
 use borrow.Author.Rules.{rules}
 use Rattle.list.proofs.step_at.Goals as goal
 
@@ -9,8 +9,8 @@ pub returns-then-n-at : goal.returns-then-n-at
 returns-then-n-at c = ended _ _ (omega arith)
 
 pub returns-then-n-at-lt4 : goal.returns-then-n-at-lt4
-returns-then-n-at-lt4 c = header-cut _ _ (omega arith) (omega arith)
+returns-then-n-at-lt4 c = header_cut _ _ (omega arith) (omega arith)
 
 pub returns : goal.returns
 returns c =
-    c.record_of.ensures ∙ header-whole _ _ _ _ (omega arith) c.half_at-size.ensures.0 c.half_at-kind.ensures.0
+    c.record_of.ensures ∙ header_whole _ _ _ _ (omega arith) c.half_at-size.ensures.0 c.half_at-kind.ensures.0

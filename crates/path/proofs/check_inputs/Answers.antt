@@ -1,16 +1,16 @@
 -- 6 and then 7, as `inputs_of` asks them.
 use mathlib.Core.Path.{sym, ◌∙◌}
 use borrow.Author.Tests.{not-true, not-false}
-use Rattle.path.proofs.Finite.{bad-transform, bad-offset, too_long, all-well}
+use Rattle.path.proofs.Finite.{bad_transform, bad_offset, too_long, all_well}
 use borrow.Author.Rules.{rules}
 use Rattle.path.proofs.check_inputs.Goals as goal
 
 pub returns-then-not-finite_transform : goal.returns-then-not-finite_transform
-returns-then-not-finite_transform c = bad-transform _ _ _ (sym c.finite_transform.ensures ∙ c.if-not-finite_transform.true)
+returns-then-not-finite_transform c = bad_transform _ _ _ (sym c.finite_transform.ensures ∙ c.if-not-finite_transform.true)
 
 pub returns-then-not-finite_point : goal.returns-then-not-finite_point
 returns-then-not-finite_point c =
-    bad-offset _ _ _ (sym c.finite_transform.ensures ∙ c.if-not-finite_transform.false) (sym c.finite_point.ensures ∙ c.if-not-finite_point.true)
+    bad_offset _ _ _ (sym c.finite_transform.ensures ∙ c.if-not-finite_transform.false) (sym c.finite_point.ensures ∙ c.if-not-finite_point.true)
 
 pub returns-then-list-gt-MOST_BYTES : goal.returns-then-list-gt-MOST_BYTES
 returns-then-list-gt-MOST_BYTES c =
@@ -18,4 +18,4 @@ returns-then-list-gt-MOST_BYTES c =
 
 pub returns : goal.returns
 returns c =
-    all-well _ _ _ (sym c.finite_transform.ensures ∙ c.if-not-finite_transform.false) (sym c.finite_point.ensures ∙ c.if-not-finite_point.false) c.if-list-gt-MOST_BYTES.false
+    all_well _ _ _ (sym c.finite_transform.ensures ∙ c.if-not-finite_transform.false) (sym c.finite_point.ensures ∙ c.if-not-finite_point.false) c.if-list-gt-MOST_BYTES.false

@@ -4,7 +4,7 @@ use native.Mathlib.Omega.{arith}
 use lib.ListN.{length}
 use borrow.Author.Rules.{rules}
 use Rattle.list.proofs.Next.{further}
-use Rattle.path.proofs.Walk.{Going, started, ended, turned, faulty, few-more, goes_on}
+use Rattle.path.proofs.Walk.{Going, started, ended, turned, faulty, few_more, goes_on}
 use Rattle.path.proofs.judge.Goals as goal
 
 pub loop-why-init : goal.loop-why-init
@@ -23,8 +23,8 @@ returns-in-Refused c =
 pub overflow_add-cut : goal.overflow_add-cut
 overflow_add-cut c =
     let l = c.loop-why in
-    let m = few-more _ _ _ l.at l.n l.cut l.invariant.0 _ _ (sym c.step_at.ensures ∙ c.in-Command.is) _ (sym c.in-Cuts.is ∙ c.rule.ensures) in
-    omega (arith, l.invariant.0.few, l.invariant.0.few-cut, l.invariant.0.inside, l.invariant.1)
+    let m = few_more _ _ _ l.at l.n l.cut l.invariant.0 _ _ (sym c.step_at.ensures ∙ c.in-Command.is) _ (sym c.in-Cuts.is ∙ c.rule.ensures) in
+    omega (arith, l.invariant.0.few, l.invariant.0.few_cut, l.invariant.0.inside, l.invariant.1)
 
 pub loop-why-smaller : goal.loop-why-smaller
 loop-why-smaller c =

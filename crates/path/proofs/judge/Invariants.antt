@@ -5,7 +5,7 @@ use native.Mathlib.Omega.{arith}
 use lib.ListN.{length}
 use borrow.Author.Rules.{rules}
 use Rattle.list.proofs.Next.{further}
-use Rattle.path.proofs.Walk.{Going, started, ended, turned, faulty, few-more, goes_on}
+use Rattle.path.proofs.Walk.{Going, started, ended, turned, faulty, few_more, goes_on}
 use Rattle.path.proofs.judge.Given as goal
 
 abbrev pub invariant-loop-why : goal.invariant-loop-why

@@ -3,9 +3,9 @@ use mathlib.Core.Path.{refl, sym, ◌∙◌}
 use native.Mathlib.Omega.{arith}
 use lib.ListN.{length}
 use borrow.Author.Rules.{rules}
-use Rattle.list.proofs.Next.{further, next-in}
+use Rattle.list.proofs.Next.{further, next_in_is}
 use Rattle.pen.specs.Drawing.{Ready}
-use Rattle.pen.proofs.Adding.{still-ready}
+use Rattle.pen.proofs.Adding.{still_ready}
 use Rattle.path.proofs.Tracking.{Tracking, started, goes_on, stops, traced, untraced}
 use Rattle.path.proofs.trace_list.Goals as goal
 
@@ -41,5 +41,5 @@ loop-ws-preserved c =
     let e = c.stroke_of.ensures.0 in (
       goes_on _ _ _ _ _ _ _ l.track l.at l.n l.invariant.0 _ _ (sym c.step_at.ensures ∙ c.in-Command.is) _ _ (rw e at c.trace-track.ensures) _ refl _ c.in-Cells.is
           (rw e at c.stroke_of.ensures.1),
-      still-ready _ _ l.invariant.1 c.trace-track.ensures.drew.added.same,
+      still_ready _ _ l.invariant.1 c.trace-track.ensures.drew.added.same,
     )

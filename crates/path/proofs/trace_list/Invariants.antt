@@ -4,9 +4,9 @@ use mathlib.Core.Path.{refl, sym, ◌∙◌}
 use native.Mathlib.Omega.{arith}
 use lib.ListN.{length}
 use borrow.Author.Rules.{rules}
-use Rattle.list.proofs.Next.{further, next-in}
+use Rattle.list.proofs.Next.{further, next_in_is}
 use Rattle.pen.specs.Drawing.{Ready}
-use Rattle.pen.proofs.Adding.{still-ready}
+use Rattle.pen.proofs.Adding.{still_ready}
 use Rattle.path.proofs.Tracking.{Tracking, started, goes_on, stops, traced, untraced}
 use Rattle.path.proofs.trace_list.Given as goal
 

@@ -1,4 +1,3 @@
--- src/lib.rt:29:1
 use Rattle.std.proofs.Common.{refl}
 use Rattle.pen.specs.Drawing.{lifted}
 use Rattle.pen.proofs.lift.Goals as goal

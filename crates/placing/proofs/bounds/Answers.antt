@@ -1,6 +1,6 @@
 -- What was judged with offset zero, and the box of an accepted list.
 use mathlib.Core.Path.{sym, ◌∙◌}
-use Rattle.placing.proofs.Answers.{boxed_at, boxed-away}
+use Rattle.placing.proofs.Answers.{boxed_at, boxed_away}
 use borrow.Author.Rules.{rules}
 use Rattle.placing.proofs.bounds.Goals as goal
 
@@ -10,4 +10,4 @@ returns-in-Records c =
 
 pub returns-in-Refused : goal.returns-in-Refused
 returns-in-Refused c =
-    boxed-away _ _ _ _ (rw c.zero_point.ensures at (sym c.in-Refused.is ∙ c.judge_inputs.ensures))
+    boxed_away _ _ _ _ (rw c.zero_point.ensures at (sym c.in-Refused.is ∙ c.judge_inputs.ensures))

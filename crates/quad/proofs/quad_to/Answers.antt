@@ -3,12 +3,12 @@ use mathlib.Core.Path.{sym, ap, ◌∙◌}
 use mathlib.Core.Logic.{⊎_elim}
 use native.Mathlib.Omega.{arith}
 use borrow.Author.Rules.{rules}
-use Rattle.pen.proofs.Adding.{drew-none, still-ready}
+use Rattle.pen.proofs.Adding.{drew_none, still_ready}
 use mathlib.Core.Path.{◌≡◌}
 use mathlib.Core.List.{[]}
 use Rattle.quad.specs.Quads.{doublings, quad_marks}
-use Rattle.quad.proofs.Skipping.{past-marks, ahead-marks, drawn-marks}
-use Rattle.quad.proofs.Stack.{never-full, few-left, some_left, room, rest-less, popped}
+use Rattle.quad.proofs.Skipping.{past_marks, ahead_marks, drawn_marks}
+use Rattle.quad.proofs.Stack.{never_full, few_left, some_left, room, rest_less, popped}
 use Rattle.quad.proofs.Drawing.{all_marks, Going, going, halving, finished, onward}
 use Rattle.quad.proofs.quad_to.Goals as goal
 use Rattle.quad.proofs.quad_to.Goals.{then-all_past-via-then-all_past, then-all_past-via-else-all_past+then-all_ahead}
@@ -19,11 +19,11 @@ returns-then-all_past c =
     let e = c.all_past.ensures in
     let none : quad_marks p.f p.a p.c p.b ≡ [] =
         elim c.then-all_past.branch [
-          then-all_past-via-then-all_past w ↦ past-marks p.f p.a p.c p.b (sym e ∙ w.if-all_past.true)
-          | then-all_past-via-else-all_past+then-all_ahead w ↦ ahead-marks p.f p.a p.c p.b (sym e ∙ w.if-all_past.false) (sym w.all_ahead.ensures ∙ w.if-all_ahead.true)
+          then-all_past-via-then-all_past w ↦ past_marks p.f p.a p.c p.b (sym e ∙ w.if-all_past.true)
+          | then-all_past-via-else-all_past+then-all_ahead w ↦ ahead_marks p.f p.a p.c p.b (sym e ∙ w.if-all_past.false) (sym w.all_ahead.ensures ∙ w.if-all_ahead.true)
         ]
     in
-    rw none (drew-none p.f p.cap c.requires.within)
+    rw none (drew_none p.f p.cap c.requires.within)
 
 pub loop-rest-init : goal.loop-rest-init
 loop-rest-init c =
@@ -40,15 +40,15 @@ pub loop-rest-preserved-then-rest-eq0 : goal.loop-rest-preserved-then-rest-eq0
 loop-rest-preserved-then-rest-eq0 c = halving c.loop-rest.invariant c.if-rest-eq0.true c.halve-arc.ensures
 
 pub offset_bounds-arc-top : goal.offset_bounds-arc-top
-offset_bounds-arc-top c = omega (arith, never-full c.loop-rest.invariant.stack)
+offset_bounds-arc-top c = omega (arith, never_full c.loop-rest.invariant.stack)
 
 pub bounds-arc-top : goal.bounds-arc-top
-bounds-arc-top c = omega (arith, never-full c.loop-rest.invariant.stack)
+bounds-arc-top c = omega (arith, never_full c.loop-rest.invariant.stack)
 
 pub returns-then-draw-eq0 : goal.returns-then-draw-eq0
 returns-then-draw-eq0 c =
     let p = c.args in
-    rw (drawn-marks p.f p.a p.c p.b (sym c.all_past.ensures ∙ c.if-all_past.false) (sym c.all_ahead.ensures ∙ c.if-all_ahead.false))
+    rw (drawn_marks p.f p.a p.c p.b (sym c.all_past.ensures ∙ c.if-all_past.false) (sym c.all_ahead.ensures ∙ c.if-all_ahead.false))
     (finished c.loop-rest.invariant c.if-rest-eq0.false c.line_to-drawn.ensures c.if-draw-eq0.true)
 
 pub overflow_sub-top : goal.overflow_sub-top
@@ -58,7 +58,7 @@ overflow_sub-top c =
 pub loop-rest-smaller : goal.loop-rest-smaller
 loop-rest-smaller c =
     let s = c.loop-rest.invariant.stack in
-    omega (arith, some_left s, few-left s)
+    omega (arith, some_left s, few_left s)
 
 pub loop-rest-preserved : goal.loop-rest-preserved
 loop-rest-preserved c =

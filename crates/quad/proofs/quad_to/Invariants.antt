@@ -4,10 +4,10 @@ use mathlib.Core.Path.{sym, ap, ◌∙◌}
 use mathlib.Core.Logic.{⊎_elim}
 use native.Mathlib.Omega.{arith}
 use borrow.Author.Rules.{rules}
-use Rattle.pen.proofs.Adding.{drew-none, still-ready}
+use Rattle.pen.proofs.Adding.{drew_none, still_ready}
 use Rattle.quad.specs.Quads.{doublings}
-use Rattle.quad.proofs.Skipping.{past-marks, ahead-marks, drawn-marks}
-use Rattle.quad.proofs.Stack.{never-full, few-left, some_left, room, rest-less, popped}
+use Rattle.quad.proofs.Skipping.{past_marks, ahead_marks, drawn_marks}
+use Rattle.quad.proofs.Stack.{never_full, few_left, some_left, room, rest_less, popped}
 use Rattle.quad.proofs.Drawing.{all_marks, Going, going, halving, finished, onward}
 use Rattle.quad.proofs.quad_to.Given as goal
 

@@ -1,8 +1,8 @@
 -- The subpath is closed, and then the cell is entered.
-use Rattle.pen.proofs.Adding.{drew-then}
+use Rattle.pen.proofs.Adding.{drew_then}
 use borrow.Author.Rules.{rules}
 use Rattle.raster.proofs.move_to.Goals as goal
 
 pub returns : goal.returns
 returns c =
-    drew-then _ _ c.line_to-closed.ensures (rw (c.trunc.ensures, c.trunc-2.ensures) at c.set_cell.ensures)
+    drew_then _ _ c.line_to-closed.ensures (rw (c.trunc.ensures, c.trunc-2.ensures) at c.set_cell.ensures)

@@ -1,10 +1,9 @@
 -- `storage::store` meets its contract, by where the walk ended: at the cell of the place, or at the one that the place goes behind.
--- what was asked about the cell at which the walk ended
 use Rattle.std.proofs.Common.{◌≡◌, ◌+◌, ◌<◌, Bool, true, sym, refl, ◌∙◌, arith, rules}
 use Rattle.storage.specs.Deposits.{place_of}
 use Rattle.storage.specs.Answers.{is_at}
 use Rattle.storage.proofs.Words.{link_fits}
-use Rattle.storage.proofs.Stores.{is_at_true, at-cell, at-full, at_gap}
+use Rattle.storage.proofs.Stores.{is_at_true, at_cell, at_full, at_gap}
 use Rattle.storage.proofs.store.Goals as goal
 
 pub returns-then-is_at : goal.returns-then-is_at
@@ -15,7 +14,7 @@ returns-then-is_at c =
     let a = c.args in
     record {
       told =
-          at-cell a.ws.now a.rows a.cap a.count a.row a.column a.cover a.area
+          at_cell a.ws.now a.rows a.cap a.count a.row a.column a.cover a.area
           c.requires.1 _ c.walk_on-last.ensures (omega arith) (asked _ c.if-is_at.true) _ _ c.add_pair.ensures c.set_back.ensures;
       long = omega (arith, c.add_pair.auto, c.set_back.auto);
       within = c.requires.0.used;
@@ -29,7 +28,7 @@ returns-then-cap-count c =
     let a = c.args in
     record {
       told =
-          at-full a.ws.now a.rows a.cap a.count a.row a.column a.cover a.area
+          at_full a.ws.now a.rows a.cap a.count a.row a.column a.cover a.area
           c.requires.1 _ c.walk_on-last.ensures (omega arith) (asked _ c.if-is_at.false) c.if-cap-count.true;
       long = refl;
       within = tt;

@@ -1,6 +1,5 @@
 -- `geometry::Placement::compute` meets its contract: the two spans of the shifted box say where the mask lies (`proofs/Sides.antt`); where one is beyond, the box is outside.
 -- Assumes nothing.
--- the box with the offset added
 use mathlib.Core.Path.{◌≡◌, sym, ap, ◌∙◌}
 use Prim.Native.Nat.{◌^◌, ◌<◌}
 use native.Mathlib.Omega.{arith}
