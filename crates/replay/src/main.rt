@@ -2,12 +2,16 @@
 // Number 0 and what goes with it is the Rust's answer, but for the cut coordinates, which compare's own reading of docs/RULES.md counts. The Rust
 // refuses nothing: every other number is that reading's, which for 13 counts the Rust's cells.
 // The file starts with MZREPLAY, then the count of drawings, the drawings, the count of placements, the placements; all numbers are little-endian.
-ghost use Rattle.std.specs.Prelude.{◌≡◌, ◌^◌, ◌≤◌, length};
+#![tactic(auto)]
+
+ghost use Rattle.std.specs.Prelude.{◌≡◌, ◌^◌, ◌≤◌, length, IfOk};
 
 use geometry::{Origin, Point, Transform};
 use label::{Label, Numbers};
-use libc::STDOUT_FILENO;
 use placing::PlaceNumbers;
+use std::fs::File;
+use std::io;
+use std::io::Read;
 use sweep::Fill;
 
 // Where the next case starts, how many of those before it the file says are accepted and how many refused, and how many differ.
@@ -401,39 +405,34 @@ fn placements(s: &[u8], from: usize, count: usize) -> Tally {
     }
 }
 
-fn print(n: usize) {
-    io::print_decimal(STDOUT_FILENO, n as u64);
-}
-
 // What the cases are, and whose answers were stored for them.
-fn report(d: Tally, p: Tally) {
-    print(add(d.accepted, d.refused));
-    io::write_all(STDOUT_FILENO, b" drawings and ");
-    print(add(p.accepted, p.refused));
-    io::write_all(
-        STDOUT_FILENO,
-        b" placements replayed; answers stored by compare: ",
-    );
-    print(add(d.accepted, p.accepted));
-    io::write_all(STDOUT_FILENO, b" of the Rust, ");
-    print(add(d.refused, p.refused));
-    io::write_all(STDOUT_FILENO, b" refusals by its reading of the rules; ");
-    print(add(d.differ, p.differ));
-    io::write_all(STDOUT_FILENO, b" differ\n");
+fn report(rt: &impl Print, d: Tally, p: Tally) -> io::Result<()> {
+    let drawings = add(d.accepted, d.refused);
+    let placements = add(p.accepted, p.refused);
+    let accepted = add(d.accepted, p.accepted);
+    let refused = add(d.refused, p.refused);
+    let differ = add(d.differ, p.differ);
+    print!(rt;
+        "{drawings} drawings and {placements} placements replayed; answers stored by compare: "
+    )?;
+    println!(rt;
+        "{accepted} of the Rust, {refused} refusals by its reading of the rules; {differ} differ"
+    )
 }
 
 // Replays a whole file, and says so where it is not one.
-fn replay(s: &[u8], mask: &mut [u8], words: &mut [u32]) {
+fn replay(rt: &impl Print, s: &[u8], mask: &mut [u8], words: &mut [u32]) -> io::Result<()> {
     if !same_bytes(s, 0, b"MZREPLAY") {
-        io::write_all(STDOUT_FILENO, b"not a file of answers\n");
-        return;
+        return println!(rt; "not a file of answers");
     }
     let d = drawings(s, 12, word_at(s, 8), mask, words);
     let p = placements(s, add(d.at, 4), word_at(s, d.at));
-    report(d, p);
-    if p.at != s.len() {
-        io::write_all(STDOUT_FILENO, b"the file does not end there\n");
+    let end = p.at;
+    report(rt, d, p)?;
+    if end != s.len() {
+        println!(rt; "the file does not end there")?;
     }
+    Ok(())
 }
 
 fn file_space() -> [u8; 1048576]
@@ -442,27 +441,55 @@ fn file_space() -> [u8; 1048576]
     [0; 1048576]
 }
 
+fn mask_space() -> [u8; 65536]
+    ensures { 65536 ≡ length result }
+{
+    [0; 65536]
+}
+
 fn word_space() -> [u32; 69632]
     ensures { 69632 ≡ length result }
 {
     [0; 69632]
 }
 
-fn replay_file(fd: i32) {
-    let mut space = file_space();
-    let mut mask = io::large_buffer();
-    let mut words = word_space();
-    let n = io::read_full(fd, &mut space);
-    replay(&space[..n], &mut mask, &mut words);
+// Reads until the buffer is full or the input ends, and answers how many bytes it put at the buffer's start.
+fn read_full<R: Read>(file: &mut R, buf: &mut [u8]) -> io::Result<usize>
+    ensures { IfOk result (λ n. n ≤ length buf.new) }
+{
+    let mut done = 0;
+    while done < buf.len() {
+        let n = file.read(&mut buf[done..])?;
+        if n == 0 {
+            break;
+        }
+        done += n;
+    }
+    Ok(done)
 }
 
-fn main() {
-    let path = b"answers";
-    let fd = os::open_read(path);
-    if fd < 0 {
-        os::fail(path);
-        return;
+fn replay_file<R: Read>(rt: &impl Print, file: &mut R) -> io::Result<()> {
+    let mut space = file_space();
+    let mut mask = mask_space();
+    let mut words = word_space();
+    let n = read_full(file, &mut space)?;
+    replay(rt, &space[..n], &mut mask, &mut words)
+}
+
+// Writes a line to standard error: what could not be opened, a colon and the system's words for why, without their number.
+fn fail(rt: &(impl Eprint + Alloc), what: &str, why: io::Error) -> io::Result<()> {
+    let text = why.to_string(rt.alloc())?;
+    match text.as_str().split_once(" (os error ") {
+        Some((words, _)) => eprintln!(rt; "{what}: {words}"),
+        None => eprintln!(rt; "{what}: {text}"),
     }
-    replay_file(fd);
-    libc::close(fd);
+}
+
+const ANSWERS: &str = "answers";
+
+fn main(rt: HostRuntime) -> io::Result<()> {
+    match File::open(&rt, ANSWERS) {
+        Ok(mut file) => replay_file(&rt, &mut file),
+        Err(why) => fail(&rt, ANSWERS, why),
+    }
 }
