@@ -4,7 +4,8 @@
 // The file starts with MZREPLAY, then the count of drawings, the drawings, the count of placements, the placements; all numbers are little-endian.
 #![tactic(auto)]
 
-ghost use Rattle.std.specs.Prelude.{◌≡◌, ◌^◌, ◌≤◌, length, IfOk};
+ghost use Rattle.std.specs.Prelude.{◌≡◌, ◌↔◌, ◌*◌, ◌%◌, ◌^◌, ◌≤◌, length, replicate, slice_index, All, EachIndex, IfOk, IsTrue};
+ghost use Rattle.replay.specs.Answers.{onward, number_of, word_at, wide_at, fnv1a};
 
 use geometry::{Origin, Point, Transform};
 use label::{Label, Numbers};
@@ -27,24 +28,33 @@ const OLD_BYTE: u8 = 7;
 
 const OLD_WORD: u32 = 9;
 
-fn add(a: usize, b: usize) -> usize {
-    std::num::wrapping_add_usize(a, b)
+// An index may come from the file, so it wraps in place of being too large.
+fn add(a: usize, b: usize) -> usize
+    ensures { result ≡ onward a b }
+{
+    a.wrapping_add(b)
 }
 
 // The byte at an index, or 0 behind the end.
-fn byte_at(s: &[u8], at: usize) -> u8 {
+fn byte_at(s: &[u8], at: usize) -> u8
+    ensures { result ≡ slice_index s.now at }
+{
     if at < s.len() {
         return s[at];
     }
     0
 }
 
-fn word_of(a: u8, b: u8, c: u8, d: u8) -> usize {
+fn word_of(a: u8, b: u8, c: u8, d: u8) -> usize
+    ensures { result ≡ number_of a b c d }
+{
     (a as usize) + (b as usize) * 0x100 + (c as usize) * 0x1_0000 + (d as usize) * 0x100_0000
 }
 
 // The number of four bytes, the first one lowest.
-fn word_at(s: &[u8], at: usize) -> usize {
+fn word_at(s: &[u8], at: usize) -> usize
+    ensures { result ≡ word_at s.now at }
+{
     word_of(
         byte_at(s, at),
         byte_at(s, add(at, 1)),
@@ -109,90 +119,64 @@ fn label_at(s: &[u8], at: usize) -> Label {
     }
 }
 
-fn put_byte(mask: &mut [u8], i: usize) {
-    if i < mask.len() {
-        mask[i] = OLD_BYTE;
-    }
+fn fill_mask(mask: &mut [u8])
+    ensures { mask.new ≡ replicate (length mask.old) OLD_BYTE }
+{
+    mask.fill(OLD_BYTE);
 }
 
-fn fill_mask(mask: &mut [u8]) {
-    let mut left = mask.len();
-    while left > 0 {
-        left -= 1;
-        put_byte(mask, left);
-    }
+fn fill_words(words: &mut [u32])
+    ensures { words.new ≡ replicate (length words.old) OLD_WORD }
+{
+    words.fill(OLD_WORD);
 }
 
-fn put_word(words: &mut [u32], i: usize) {
-    if i < words.len() {
-        words[i] = OLD_WORD;
-    }
-}
-
-fn fill_words(words: &mut [u32]) {
-    let mut left = words.len();
-    while left > 0 {
-        left -= 1;
-        put_word(words, left);
-    }
-}
-
-fn word_is(words: &[u32], i: usize, v: u32) -> bool {
-    if i < words.len() {
-        return words[i] == v;
-    }
-    false
-}
-
-fn all_words(words: &[u32], v: u32) -> bool {
-    let mut left = words.len();
-    while left > 0 {
-        left -= 1;
-        if !word_is(words, left, v) {
-            return false;
-        }
-    }
-    true
+fn all_words(words: &[u32], v: u32) -> bool
+    ensures { IsTrue result ↔ All (λ w. w ≡ v) words.now }
+{
+    words.iter().all(|w| *w == v)
 }
 
 // Whether the mask's bytes stand in the file from an index on.
-fn same_bytes(s: &[u8], from: usize, mask: &[u8]) -> bool {
-    let mut left = mask.len();
-    while left > 0 {
-        left -= 1;
-        if byte_at(mask, left) != byte_at(s, add(from, left)) {
+fn same_bytes(s: &[u8], from: usize, mask: &[u8]) -> bool
+    ensures { IsTrue result ↔ EachIndex mask.now (λ k. slice_index mask.now k ≡ slice_index s.now (onward from k)) }
+{
+    for (i, b) in mask.iter().enumerate() {
+        if *b != byte_at(s, add(from, i)) {
             return false;
         }
     }
     true
 }
 
-// h times 2^40 + 435, cut to 64 bits.
-fn times_prime(h: u64) -> u64 {
-    let low = (h % 0x1_0000_0000) * 435;
-    let high = (h / 0x1_0000_0000) * 435 % 0x1_0000_0000 * 0x1_0000_0000;
-    let top = (h % 0x100_0000) * 0x100_0000_0000;
-    std::num::wrapping_add_u64(std::num::wrapping_add_u64(low, high), top)
+// 2^40 + 435.
+const FNV_PRIME: u64 = 0x100_0000_01b3;
+
+const FNV_START: u64 = 0xcbf2_9ce4_8422_2325;
+
+fn times_prime(h: u64) -> u64
+    ensures { result ≡ h * FNV_PRIME % 2 ^ 64 }
+{
+    h.wrapping_mul(FNV_PRIME)
 }
 
-fn wide(b: u8) -> u64 {
-    b as u64
+fn wide(b: u8) -> u64
+    ensures { result ≡ b }
+{
+    u64::from(b)
 }
 
 // The 64-bit FNV-1a of the bytes.
-fn checksum(mask: &[u8]) -> u64 {
-    let mut h: u64 = 0xcbf2_9ce4_8422_2325;
-    let mut at: usize = 0;
-    let mut left = mask.len();
-    while left > 0 {
-        h = times_prime(h ^ wide(byte_at(mask, at)));
-        at = add(at, 1);
-        left -= 1;
-    }
-    h
+fn checksum(mask: &[u8]) -> u64
+    ensures { result ≡ fnv1a mask.now }
+{
+    mask.iter()
+        .fold(FNV_START, |h, b| times_prime(h ^ wide(*b)))
 }
 
-fn same_checksum(s: &[u8], at: usize, h: u64) -> bool {
+fn same_checksum(s: &[u8], at: usize, h: u64) -> bool
+    ensures { IsTrue result ↔ (h ≡ wide_at s.now at) }
+{
     if (h % 0x1_0000_0000) as usize != word_at(s, at) {
         return false;
     }
@@ -292,9 +276,7 @@ fn drawings(s: &[u8], from: usize, count: usize, mask: &mut [u8], words: &mut [u
     let mut accepted: usize = 0;
     let mut refused: usize = 0;
     let mut differ: usize = 0;
-    let mut left = count;
-    while left > 0 {
-        left -= 1;
+    for _ in 0..count {
         let number = word_at(s, add(list_end(s, at), 58));
         accepted = add(accepted, one_unless(number != 0));
         refused = add(refused, one_unless(number == 0));
@@ -387,9 +369,7 @@ fn placements(s: &[u8], from: usize, count: usize) -> Tally {
     let mut accepted: usize = 0;
     let mut refused: usize = 0;
     let mut differ: usize = 0;
-    let mut left = count;
-    while left > 0 {
-        left -= 1;
+    for _ in 0..count {
         let end = list_end(s, at);
         let number = word_at(s, add(end, 33));
         accepted = add(accepted, one_unless(number != 0));

@@ -1,5 +1,7 @@
--- What is left falls with each turn.
+-- The bytes so far are the same.
+use Rattle.std.proofs.Common.{◌≡◌, ℕ, ◌<◌, get_or}
+use Rattle.replay.specs.Answers.{onward}
 use Rattle.replay.proofs.same_bytes.Given as goal
 
-abbrev pub decreases-loop-left : goal.decreases-loop-left
-decreases-loop-left l = l.left
+abbrev pub invariant-loop-i : goal.invariant-loop-i
+invariant-loop-i l = (k : ℕ) → k < l.i → get_or l.mask k 0 ≡ get_or l.s (onward l.from k) 0

@@ -1,5 +1,0 @@
--- What is left falls with each turn.
-use Rattle.replay.proofs.drawings.Given as goal
-
-abbrev pub decreases-loop-left : goal.decreases-loop-left
-decreases-loop-left l = l.left
