@@ -4,8 +4,9 @@
 // The file starts with MZREPLAY, then the count of drawings, the drawings, the count of placements, the placements; all numbers are little-endian.
 #![tactic(auto)]
 
-ghost use Rattle.std.specs.Prelude.{◌≡◌, ◌↔◌, ◌*◌, ◌%◌, ◌^◌, ◌≤◌, length, replicate, slice_index, All, EachIndex, IfOk, IsTrue};
-ghost use Rattle.replay.specs.Answers.{onward, number_of, word_at, wide_at, fnv1a};
+ghost use Rattle.std.specs.Prelude.{◌≡◌, ◌↔◌, ◌+◌, ◌*◌, ◌%◌, ◌^◌, ◌<◌, ◌≤◌, if◌then◌else◌, pos, ◌+ℤ◌, ℕ, length, replicate, slice_index, All, EachIndex, IfOk, IsTrue};
+ghost use Rattle.paper.specs.Drawing.{draw};
+ghost use Rattle.replay.specs.Answers.{onward, number_of, word_at, wide_at, float_at, point_at, transform_at, fill_of, origin_of, label_at, list_end, after_drawing, fnv1a, numbers_at, word_after, MaskAgrees, Agrees, DrawingAgrees, nth_drawing, EachDrawingAgrees, bits_of, SignedAgrees, PlaceAgrees, PlacementAgrees, after_placement, nth_placement, EachPlacementAgrees};
 
 use geometry::{Origin, Point, Transform};
 use label::{Label, Numbers};
@@ -46,14 +47,17 @@ fn byte_at(s: &[u8], at: usize) -> u8
 }
 
 fn word_of(a: u8, b: u8, c: u8, d: u8) -> usize
-    ensures { result ≡ number_of a b c d }
+    ensures value { result ≡ number_of a b c d }
+    ensures fits { result < 2 ^ 32 }
 {
     (a as usize) + (b as usize) * 0x100 + (c as usize) * 0x1_0000 + (d as usize) * 0x100_0000
 }
 
 // The number of four bytes, the first one lowest.
+#[tactic(auto, unfolding(crate::specs::Answers::word_at))]
 fn word_at(s: &[u8], at: usize) -> usize
-    ensures { result ≡ word_at s.now at }
+    ensures value { result ≡ word_at s.now at }
+    ensures fits { result < 2 ^ 32 }
 {
     word_of(
         byte_at(s, at),
@@ -63,7 +67,10 @@ fn word_at(s: &[u8], at: usize) -> usize
     )
 }
 
-fn float_at(s: &[u8], at: usize) -> f32 {
+#[tactic(auto, unfolding(crate::specs::Answers::float_at))]
+fn float_at(s: &[u8], at: usize) -> f32
+    ensures { result ≡ float_at s.now at }
+{
     float::from_bytes(
         byte_at(s, at),
         byte_at(s, add(at, 1)),
@@ -72,14 +79,19 @@ fn float_at(s: &[u8], at: usize) -> f32 {
     )
 }
 
-fn point_at(s: &[u8], at: usize) -> Point {
+fn point_at(s: &[u8], at: usize) -> Point
+    ensures { result ≡ point_at s.now at }
+{
     Point {
         x: float_at(s, at),
         y: float_at(s, add(at, 4)),
     }
 }
 
-fn transform_at(s: &[u8], at: usize) -> Transform {
+#[tactic(auto, unfolding(crate::specs::Answers::transform_at))]
+fn transform_at(s: &[u8], at: usize) -> Transform
+    ensures { result ≡ transform_at s.now at }
+{
     Transform {
         xx: float_at(s, at),
         xy: float_at(s, add(at, 4)),
@@ -90,14 +102,18 @@ fn transform_at(s: &[u8], at: usize) -> Transform {
     }
 }
 
-fn fill_of(b: u8) -> Fill {
+fn fill_of(b: u8) -> Fill
+    ensures { result ≡ fill_of b }
+{
     if b == 1 {
         return Fill::EvenOdd;
     }
     Fill::NonZero
 }
 
-fn origin_of(b: u8) -> Origin {
+fn origin_of(b: u8) -> Origin
+    ensures { result ≡ origin_of b }
+{
     if b == 1 {
         return Origin::BottomLeft;
     }
@@ -105,7 +121,10 @@ fn origin_of(b: u8) -> Origin {
 }
 
 // What stands behind a drawing's list.
-fn label_at(s: &[u8], at: usize) -> Label {
+#[tactic(auto, unfolding(crate::specs::Answers::label_at))]
+fn label_at(s: &[u8], at: usize) -> Label
+    ensures { result ≡ label_at s.now at }
+{
     Label {
         transform: transform_at(s, at),
         offset: point_at(s, add(at, 24)),
@@ -183,14 +202,19 @@ fn same_checksum(s: &[u8], at: usize, h: u64) -> bool
     (h / 0x1_0000_0000) as usize == word_at(s, add(at, 4))
 }
 
-fn mask_agrees(s: &[u8], at: usize, mask: &[u8]) -> bool {
+fn mask_agrees(s: &[u8], at: usize, mask: &[u8]) -> bool
+    ensures { IsTrue result ↔ MaskAgrees s.now at mask.now }
+{
     if byte_at(s, add(at, 82)) == 1 {
         return same_bytes(s, add(at, 83), mask);
     }
     same_checksum(s, add(at, 83), checksum(mask))
 }
 
-fn numbers_agree(s: &[u8], at: usize, n: Numbers) -> bool {
+#[tactic(auto, unfolding(crate::specs::Answers::numbers_at))]
+fn numbers_agree(s: &[u8], at: usize, n: Numbers) -> bool
+    ensures { IsTrue result ↔ (n ≡ numbers_at s.now at) }
+{
     if n.number as usize != word_at(s, add(at, 58)) {
         return false;
     }
@@ -207,7 +231,9 @@ fn numbers_agree(s: &[u8], at: usize, n: Numbers) -> bool {
 }
 
 // All words are zero after 0 and 13, and as they were after every other number.
-fn words_agree(words: &[u32], number: u32) -> bool {
+fn words_agree(words: &[u32], number: u32) -> bool
+    ensures { IsTrue result ↔ All (λ w. w ≡ word_after number) words.now }
+{
     if number == 0 {
         return all_words(words, 0);
     }
@@ -218,7 +244,10 @@ fn words_agree(words: &[u32], number: u32) -> bool {
 }
 
 // Draws into the lent memory, and answers whether all is as the file says behind the list.
-fn draw_agrees(s: &[u8], list: &[u8], at: usize, mask: &mut [u8], words: &mut [u32]) -> bool {
+fn draw_agrees(s: &[u8], list: &[u8], at: usize, mask: &mut [u8], words: &mut [u32]) -> bool
+    ensures { let lent = replicate (length mask.old) OLD_BYTE in let kept = replicate (length words.old) OLD_WORD in
+        IsTrue result ↔ Agrees s.now at (draw (label_at s.now at) list.now lent kept) }
+{
     fill_mask(mask);
     fill_words(words);
     let n = paper::draw(list, label_at(s, at), mask, words);
@@ -232,11 +261,15 @@ fn draw_agrees(s: &[u8], list: &[u8], at: usize, mask: &mut [u8], words: &mut [u
 }
 
 // Where the list ends that starts with its length.
-fn list_end(s: &[u8], at: usize) -> usize {
+fn list_end(s: &[u8], at: usize) -> usize
+    ensures { result ≡ list_end s.now at }
+{
     add(add(at, 4), word_at(s, at))
 }
 
-fn replay_drawing(s: &[u8], at: usize, mask: &mut [u8], words: &mut [u32]) -> bool {
+fn replay_drawing(s: &[u8], at: usize, mask: &mut [u8], words: &mut [u32]) -> bool
+    ensures { IsTrue result ↔ DrawingAgrees s.now at (length mask.old) (length words.old) }
+{
     let start = add(at, 4);
     let end = list_end(s, at);
     if end < start {
@@ -256,7 +289,9 @@ fn replay_drawing(s: &[u8], at: usize, mask: &mut [u8], words: &mut [u32]) -> bo
     draw_agrees(s, &s[start..end], end, &mut mask[..m], &mut words[..w])
 }
 
-fn after_drawing(s: &[u8], at: usize) -> usize {
+fn after_drawing(s: &[u8], at: usize) -> usize
+    ensures { result ≡ after_drawing s.now at }
+{
     let end = list_end(s, at);
     if byte_at(s, add(end, 82)) == 1 {
         return add(add(end, 83), word_at(s, add(end, 78)));
@@ -264,19 +299,25 @@ fn after_drawing(s: &[u8], at: usize) -> usize {
     add(end, 91)
 }
 
-fn one_unless(same: bool) -> usize {
+fn one_unless(same: bool) -> usize
+    ensures { result ≡ (if same then 0 else 1) }
+{
     if same {
         return 0;
     }
     1
 }
 
-fn drawings(s: &[u8], from: usize, count: usize, mask: &mut [u8], words: &mut [u32]) -> Tally {
+fn drawings(s: &[u8], from: usize, count: usize, mask: &mut [u8], words: &mut [u32]) -> Tally
+    ensures end { result.at ≡ nth_drawing s.now from count }
+    ensures all { result.accepted + result.refused ≡ count }
+    ensures none_differs { (result.differ ≡ 0) ↔ EachDrawingAgrees s.now from count (length mask.old) (length words.old) }
+{
     let mut at = from;
     let mut accepted: usize = 0;
     let mut refused: usize = 0;
     let mut differ: usize = 0;
-    for _ in 0..count {
+    for i in 0..count {
         let number = word_at(s, add(list_end(s, at), 58));
         accepted = add(accepted, one_unless(number != 0));
         refused = add(refused, one_unless(number == 0));
@@ -291,12 +332,16 @@ fn drawings(s: &[u8], from: usize, count: usize, mask: &mut [u8], words: &mut [u
     }
 }
 
-fn widen(n: u32) -> usize {
+fn widen(n: u32) -> usize
+    ensures { result ≡ n }
+{
     n as usize
 }
 
 // A float's bits; those of a NaN are fixed.
-fn bits_of(x: f32) -> usize {
+fn bits_of(x: f32) -> usize
+    ensures { result ≡ bits_of x }
+{
     if x != x {
         return 0x7fc0_0000;
     }
@@ -307,12 +352,15 @@ fn bits_of(x: f32) -> usize {
 // The signed number that lies 2^24 below n.
 fn below(n: u32) -> i32
     requires { n ≤ 2 ^ 30 }
+    ensures { result +ℤ pos (2 ^ 24) ≡ pos n }
 {
     (n as i32) - 0x100_0000
 }
 
 // Whether x is the signed number of so many bits; those near zero only.
-fn same_signed(x: i32, bits: usize) -> bool {
+fn same_signed(x: i32, bits: usize) -> bool
+    ensures { IsTrue result ↔ SignedAgrees x bits }
+{
     let n = add(bits, 0x100_0000) % 0x1_0000_0000;
     if n > 0x4000_0000 {
         return false;
@@ -320,7 +368,9 @@ fn same_signed(x: i32, bits: usize) -> bool {
     x == below(n as u32)
 }
 
-fn place_agrees(s: &[u8], at: usize, n: PlaceNumbers) -> bool {
+fn place_agrees(s: &[u8], at: usize, n: PlaceNumbers) -> bool
+    ensures { IsTrue result ↔ PlaceAgrees s.now at n }
+{
     if n.number as usize != word_at(s, at) {
         return false;
     }
@@ -348,7 +398,9 @@ fn place_agrees(s: &[u8], at: usize, n: PlaceNumbers) -> bool {
     n.cut as usize == word_at(s, add(at, 32))
 }
 
-fn replay_placement(s: &[u8], at: usize) -> bool {
+fn replay_placement(s: &[u8], at: usize) -> bool
+    ensures { IsTrue result ↔ PlacementAgrees s.now at }
+{
     let start = add(at, 4);
     let end = list_end(s, at);
     if end < start {
@@ -364,12 +416,16 @@ fn replay_placement(s: &[u8], at: usize) -> bool {
     place_agrees(s, add(end, 33), n)
 }
 
-fn placements(s: &[u8], from: usize, count: usize) -> Tally {
+fn placements(s: &[u8], from: usize, count: usize) -> Tally
+    ensures end { result.at ≡ nth_placement s.now from count }
+    ensures all { result.accepted + result.refused ≡ count }
+    ensures none_differs { (result.differ ≡ 0) ↔ EachPlacementAgrees s.now from count }
+{
     let mut at = from;
     let mut accepted: usize = 0;
     let mut refused: usize = 0;
     let mut differ: usize = 0;
-    for _ in 0..count {
+    for i in 0..count {
         let end = list_end(s, at);
         let number = word_at(s, add(end, 33));
         accepted = add(accepted, one_unless(number != 0));
