@@ -2,12 +2,18 @@
 // Number 0 and what goes with it is the Rust's answer, but for the cut coordinates, which compare's own reading of docs/RULES.md counts. The Rust
 // refuses nothing: every other number is that reading's, which for 13 counts the Rust's cells.
 // The file starts with MZREPLAY, then the count of drawings, the drawings, the count of placements, the placements; all numbers are little-endian.
-ghost use Rattle.std.specs.Prelude.{◌≡◌, ◌^◌, ◌≤◌, length};
+#![tactic(auto)]
+
+ghost use Rattle.std.specs.Prelude.{◌≡◌, ◌↔◌, ◌+◌, ◌*◌, ◌%◌, ◌^◌, ◌<◌, ◌≤◌, if◌then◌else◌, pos, ◌+ℤ◌, ℕ, length, replicate, slice_index, All, EachIndex, IfOk, IsTrue};
+ghost use Rattle.paper.specs.Drawing.{draw};
+ghost use Rattle.replay.specs.Answers.{onward, number_of, word_at, wide_at, float_at, point_at, transform_at, fill_of, origin_of, label_at, list_end, after_drawing, fnv1a, numbers_at, word_after, MaskAgrees, Agrees, DrawingAgrees, nth_drawing, EachDrawingAgrees, bits_of, SignedAgrees, PlaceAgrees, PlacementAgrees, after_placement, nth_placement, EachPlacementAgrees};
 
 use geometry::{Origin, Point, Transform};
 use label::{Label, Numbers};
-use libc::STDOUT_FILENO;
 use placing::PlaceNumbers;
+use std::fs::File;
+use std::io;
+use std::io::Read;
 use sweep::Fill;
 
 // Where the next case starts, how many of those before it the file says are accepted and how many refused, and how many differ.
@@ -23,24 +29,36 @@ const OLD_BYTE: u8 = 7;
 
 const OLD_WORD: u32 = 9;
 
-fn add(a: usize, b: usize) -> usize {
-    std::num::wrapping_add_usize(a, b)
+// An index may come from the file, so it wraps in place of being too large.
+fn add(a: usize, b: usize) -> usize
+    ensures { result ≡ onward a b }
+{
+    a.wrapping_add(b)
 }
 
 // The byte at an index, or 0 behind the end.
-fn byte_at(s: &[u8], at: usize) -> u8 {
+fn byte_at(s: &[u8], at: usize) -> u8
+    ensures { result ≡ slice_index s.now at }
+{
     if at < s.len() {
         return s[at];
     }
     0
 }
 
-fn word_of(a: u8, b: u8, c: u8, d: u8) -> usize {
+fn word_of(a: u8, b: u8, c: u8, d: u8) -> usize
+    ensures value { result ≡ number_of a b c d }
+    ensures fits { result < 2 ^ 32 }
+{
     (a as usize) + (b as usize) * 0x100 + (c as usize) * 0x1_0000 + (d as usize) * 0x100_0000
 }
 
 // The number of four bytes, the first one lowest.
-fn word_at(s: &[u8], at: usize) -> usize {
+#[tactic(auto, unfolding(crate::specs::Answers::word_at))]
+fn word_at(s: &[u8], at: usize) -> usize
+    ensures value { result ≡ word_at s.now at }
+    ensures fits { result < 2 ^ 32 }
+{
     word_of(
         byte_at(s, at),
         byte_at(s, add(at, 1)),
@@ -49,7 +67,10 @@ fn word_at(s: &[u8], at: usize) -> usize {
     )
 }
 
-fn float_at(s: &[u8], at: usize) -> f32 {
+#[tactic(auto, unfolding(crate::specs::Answers::float_at))]
+fn float_at(s: &[u8], at: usize) -> f32
+    ensures { result ≡ float_at s.now at }
+{
     float::from_bytes(
         byte_at(s, at),
         byte_at(s, add(at, 1)),
@@ -58,14 +79,19 @@ fn float_at(s: &[u8], at: usize) -> f32 {
     )
 }
 
-fn point_at(s: &[u8], at: usize) -> Point {
+fn point_at(s: &[u8], at: usize) -> Point
+    ensures { result ≡ point_at s.now at }
+{
     Point {
         x: float_at(s, at),
         y: float_at(s, add(at, 4)),
     }
 }
 
-fn transform_at(s: &[u8], at: usize) -> Transform {
+#[tactic(auto, unfolding(crate::specs::Answers::transform_at))]
+fn transform_at(s: &[u8], at: usize) -> Transform
+    ensures { result ≡ transform_at s.now at }
+{
     Transform {
         xx: float_at(s, at),
         xy: float_at(s, add(at, 4)),
@@ -76,14 +102,18 @@ fn transform_at(s: &[u8], at: usize) -> Transform {
     }
 }
 
-fn fill_of(b: u8) -> Fill {
+fn fill_of(b: u8) -> Fill
+    ensures { result ≡ fill_of b }
+{
     if b == 1 {
         return Fill::EvenOdd;
     }
     Fill::NonZero
 }
 
-fn origin_of(b: u8) -> Origin {
+fn origin_of(b: u8) -> Origin
+    ensures { result ≡ origin_of b }
+{
     if b == 1 {
         return Origin::BottomLeft;
     }
@@ -91,7 +121,10 @@ fn origin_of(b: u8) -> Origin {
 }
 
 // What stands behind a drawing's list.
-fn label_at(s: &[u8], at: usize) -> Label {
+#[tactic(auto, unfolding(crate::specs::Answers::label_at))]
+fn label_at(s: &[u8], at: usize) -> Label
+    ensures { result ≡ label_at s.now at }
+{
     Label {
         transform: transform_at(s, at),
         offset: point_at(s, add(at, 24)),
@@ -105,104 +138,83 @@ fn label_at(s: &[u8], at: usize) -> Label {
     }
 }
 
-fn put_byte(mask: &mut [u8], i: usize) {
-    if i < mask.len() {
-        mask[i] = OLD_BYTE;
-    }
+fn fill_mask(mask: &mut [u8])
+    ensures { mask.new ≡ replicate (length mask.old) OLD_BYTE }
+{
+    mask.fill(OLD_BYTE);
 }
 
-fn fill_mask(mask: &mut [u8]) {
-    let mut left = mask.len();
-    while left > 0 {
-        left -= 1;
-        put_byte(mask, left);
-    }
+fn fill_words(words: &mut [u32])
+    ensures { words.new ≡ replicate (length words.old) OLD_WORD }
+{
+    words.fill(OLD_WORD);
 }
 
-fn put_word(words: &mut [u32], i: usize) {
-    if i < words.len() {
-        words[i] = OLD_WORD;
-    }
-}
-
-fn fill_words(words: &mut [u32]) {
-    let mut left = words.len();
-    while left > 0 {
-        left -= 1;
-        put_word(words, left);
-    }
-}
-
-fn word_is(words: &[u32], i: usize, v: u32) -> bool {
-    if i < words.len() {
-        return words[i] == v;
-    }
-    false
-}
-
-fn all_words(words: &[u32], v: u32) -> bool {
-    let mut left = words.len();
-    while left > 0 {
-        left -= 1;
-        if !word_is(words, left, v) {
-            return false;
-        }
-    }
-    true
+fn all_words(words: &[u32], v: u32) -> bool
+    ensures { IsTrue result ↔ All (λ w. w ≡ v) words.now }
+{
+    words.iter().all(|w| *w == v)
 }
 
 // Whether the mask's bytes stand in the file from an index on.
-fn same_bytes(s: &[u8], from: usize, mask: &[u8]) -> bool {
-    let mut left = mask.len();
-    while left > 0 {
-        left -= 1;
-        if byte_at(mask, left) != byte_at(s, add(from, left)) {
+fn same_bytes(s: &[u8], from: usize, mask: &[u8]) -> bool
+    ensures { IsTrue result ↔ EachIndex mask.now (λ k. slice_index mask.now k ≡ slice_index s.now (onward from k)) }
+{
+    for (i, b) in mask.iter().enumerate() {
+        if *b != byte_at(s, add(from, i)) {
             return false;
         }
     }
     true
 }
 
-// h times 2^40 + 435, cut to 64 bits.
-fn times_prime(h: u64) -> u64 {
-    let low = (h % 0x1_0000_0000) * 435;
-    let high = (h / 0x1_0000_0000) * 435 % 0x1_0000_0000 * 0x1_0000_0000;
-    let top = (h % 0x100_0000) * 0x100_0000_0000;
-    std::num::wrapping_add_u64(std::num::wrapping_add_u64(low, high), top)
+// 2^40 + 435.
+const FNV_PRIME: u64 = 0x100_0000_01b3;
+
+const FNV_START: u64 = 0xcbf2_9ce4_8422_2325;
+
+fn times_prime(h: u64) -> u64
+    ensures { result ≡ h * FNV_PRIME % 2 ^ 64 }
+{
+    h.wrapping_mul(FNV_PRIME)
 }
 
-fn wide(b: u8) -> u64 {
-    b as u64
+fn wide(b: u8) -> u64
+    ensures { result ≡ b }
+{
+    u64::from(b)
 }
 
 // The 64-bit FNV-1a of the bytes.
-fn checksum(mask: &[u8]) -> u64 {
-    let mut h: u64 = 0xcbf2_9ce4_8422_2325;
-    let mut at: usize = 0;
-    let mut left = mask.len();
-    while left > 0 {
-        h = times_prime(h ^ wide(byte_at(mask, at)));
-        at = add(at, 1);
-        left -= 1;
-    }
-    h
+fn checksum(mask: &[u8]) -> u64
+    ensures { result ≡ fnv1a mask.now }
+{
+    mask.iter()
+        .fold(FNV_START, |h, b| times_prime(h ^ wide(*b)))
 }
 
-fn same_checksum(s: &[u8], at: usize, h: u64) -> bool {
+fn same_checksum(s: &[u8], at: usize, h: u64) -> bool
+    ensures { IsTrue result ↔ (h ≡ wide_at s.now at) }
+{
     if (h % 0x1_0000_0000) as usize != word_at(s, at) {
         return false;
     }
     (h / 0x1_0000_0000) as usize == word_at(s, add(at, 4))
 }
 
-fn mask_agrees(s: &[u8], at: usize, mask: &[u8]) -> bool {
+fn mask_agrees(s: &[u8], at: usize, mask: &[u8]) -> bool
+    ensures { IsTrue result ↔ MaskAgrees s.now at mask.now }
+{
     if byte_at(s, add(at, 82)) == 1 {
         return same_bytes(s, add(at, 83), mask);
     }
     same_checksum(s, add(at, 83), checksum(mask))
 }
 
-fn numbers_agree(s: &[u8], at: usize, n: Numbers) -> bool {
+#[tactic(auto, unfolding(crate::specs::Answers::numbers_at))]
+fn numbers_agree(s: &[u8], at: usize, n: Numbers) -> bool
+    ensures { IsTrue result ↔ (n ≡ numbers_at s.now at) }
+{
     if n.number as usize != word_at(s, add(at, 58)) {
         return false;
     }
@@ -219,7 +231,9 @@ fn numbers_agree(s: &[u8], at: usize, n: Numbers) -> bool {
 }
 
 // All words are zero after 0 and 13, and as they were after every other number.
-fn words_agree(words: &[u32], number: u32) -> bool {
+fn words_agree(words: &[u32], number: u32) -> bool
+    ensures { IsTrue result ↔ All (λ w. w ≡ word_after number) words.now }
+{
     if number == 0 {
         return all_words(words, 0);
     }
@@ -230,7 +244,10 @@ fn words_agree(words: &[u32], number: u32) -> bool {
 }
 
 // Draws into the lent memory, and answers whether all is as the file says behind the list.
-fn draw_agrees(s: &[u8], list: &[u8], at: usize, mask: &mut [u8], words: &mut [u32]) -> bool {
+fn draw_agrees(s: &[u8], list: &[u8], at: usize, mask: &mut [u8], words: &mut [u32]) -> bool
+    ensures { let lent = replicate (length mask.old) OLD_BYTE in let kept = replicate (length words.old) OLD_WORD in
+        IsTrue result ↔ Agrees s.now at (draw (label_at s.now at) list.now lent kept) }
+{
     fill_mask(mask);
     fill_words(words);
     let n = paper::draw(list, label_at(s, at), mask, words);
@@ -244,11 +261,15 @@ fn draw_agrees(s: &[u8], list: &[u8], at: usize, mask: &mut [u8], words: &mut [u
 }
 
 // Where the list ends that starts with its length.
-fn list_end(s: &[u8], at: usize) -> usize {
+fn list_end(s: &[u8], at: usize) -> usize
+    ensures { result ≡ list_end s.now at }
+{
     add(add(at, 4), word_at(s, at))
 }
 
-fn replay_drawing(s: &[u8], at: usize, mask: &mut [u8], words: &mut [u32]) -> bool {
+fn replay_drawing(s: &[u8], at: usize, mask: &mut [u8], words: &mut [u32]) -> bool
+    ensures { IsTrue result ↔ DrawingAgrees s.now at (length mask.old) (length words.old) }
+{
     let start = add(at, 4);
     let end = list_end(s, at);
     if end < start {
@@ -268,7 +289,9 @@ fn replay_drawing(s: &[u8], at: usize, mask: &mut [u8], words: &mut [u32]) -> bo
     draw_agrees(s, &s[start..end], end, &mut mask[..m], &mut words[..w])
 }
 
-fn after_drawing(s: &[u8], at: usize) -> usize {
+fn after_drawing(s: &[u8], at: usize) -> usize
+    ensures { result ≡ after_drawing s.now at }
+{
     let end = list_end(s, at);
     if byte_at(s, add(end, 82)) == 1 {
         return add(add(end, 83), word_at(s, add(end, 78)));
@@ -276,21 +299,25 @@ fn after_drawing(s: &[u8], at: usize) -> usize {
     add(end, 91)
 }
 
-fn one_unless(same: bool) -> usize {
+fn one_unless(same: bool) -> usize
+    ensures { result ≡ (if same then 0 else 1) }
+{
     if same {
         return 0;
     }
     1
 }
 
-fn drawings(s: &[u8], from: usize, count: usize, mask: &mut [u8], words: &mut [u32]) -> Tally {
+fn drawings(s: &[u8], from: usize, count: usize, mask: &mut [u8], words: &mut [u32]) -> Tally
+    ensures end { result.at ≡ nth_drawing s.now from count }
+    ensures all { result.accepted + result.refused ≡ count }
+    ensures none_differs { (result.differ ≡ 0) ↔ EachDrawingAgrees s.now from count (length mask.old) (length words.old) }
+{
     let mut at = from;
     let mut accepted: usize = 0;
     let mut refused: usize = 0;
     let mut differ: usize = 0;
-    let mut left = count;
-    while left > 0 {
-        left -= 1;
+    for i in 0..count {
         let number = word_at(s, add(list_end(s, at), 58));
         accepted = add(accepted, one_unless(number != 0));
         refused = add(refused, one_unless(number == 0));
@@ -305,12 +332,16 @@ fn drawings(s: &[u8], from: usize, count: usize, mask: &mut [u8], words: &mut [u
     }
 }
 
-fn widen(n: u32) -> usize {
+fn widen(n: u32) -> usize
+    ensures { result ≡ n }
+{
     n as usize
 }
 
 // A float's bits; those of a NaN are fixed.
-fn bits_of(x: f32) -> usize {
+fn bits_of(x: f32) -> usize
+    ensures { result ≡ bits_of x }
+{
     if x != x {
         return 0x7fc0_0000;
     }
@@ -321,12 +352,15 @@ fn bits_of(x: f32) -> usize {
 // The signed number that lies 2^24 below n.
 fn below(n: u32) -> i32
     requires { n ≤ 2 ^ 30 }
+    ensures { result +ℤ pos (2 ^ 24) ≡ pos n }
 {
     (n as i32) - 0x100_0000
 }
 
 // Whether x is the signed number of so many bits; those near zero only.
-fn same_signed(x: i32, bits: usize) -> bool {
+fn same_signed(x: i32, bits: usize) -> bool
+    ensures { IsTrue result ↔ SignedAgrees x bits }
+{
     let n = add(bits, 0x100_0000) % 0x1_0000_0000;
     if n > 0x4000_0000 {
         return false;
@@ -334,7 +368,9 @@ fn same_signed(x: i32, bits: usize) -> bool {
     x == below(n as u32)
 }
 
-fn place_agrees(s: &[u8], at: usize, n: PlaceNumbers) -> bool {
+fn place_agrees(s: &[u8], at: usize, n: PlaceNumbers) -> bool
+    ensures { IsTrue result ↔ PlaceAgrees s.now at n }
+{
     if n.number as usize != word_at(s, at) {
         return false;
     }
@@ -362,7 +398,9 @@ fn place_agrees(s: &[u8], at: usize, n: PlaceNumbers) -> bool {
     n.cut as usize == word_at(s, add(at, 32))
 }
 
-fn replay_placement(s: &[u8], at: usize) -> bool {
+fn replay_placement(s: &[u8], at: usize) -> bool
+    ensures { IsTrue result ↔ PlacementAgrees s.now at }
+{
     let start = add(at, 4);
     let end = list_end(s, at);
     if end < start {
@@ -378,14 +416,16 @@ fn replay_placement(s: &[u8], at: usize) -> bool {
     place_agrees(s, add(end, 33), n)
 }
 
-fn placements(s: &[u8], from: usize, count: usize) -> Tally {
+fn placements(s: &[u8], from: usize, count: usize) -> Tally
+    ensures end { result.at ≡ nth_placement s.now from count }
+    ensures all { result.accepted + result.refused ≡ count }
+    ensures none_differs { (result.differ ≡ 0) ↔ EachPlacementAgrees s.now from count }
+{
     let mut at = from;
     let mut accepted: usize = 0;
     let mut refused: usize = 0;
     let mut differ: usize = 0;
-    let mut left = count;
-    while left > 0 {
-        left -= 1;
+    for i in 0..count {
         let end = list_end(s, at);
         let number = word_at(s, add(end, 33));
         accepted = add(accepted, one_unless(number != 0));
@@ -401,39 +441,34 @@ fn placements(s: &[u8], from: usize, count: usize) -> Tally {
     }
 }
 
-fn print(n: usize) {
-    io::print_decimal(STDOUT_FILENO, n as u64);
-}
-
 // What the cases are, and whose answers were stored for them.
-fn report(d: Tally, p: Tally) {
-    print(add(d.accepted, d.refused));
-    io::write_all(STDOUT_FILENO, b" drawings and ");
-    print(add(p.accepted, p.refused));
-    io::write_all(
-        STDOUT_FILENO,
-        b" placements replayed; answers stored by compare: ",
-    );
-    print(add(d.accepted, p.accepted));
-    io::write_all(STDOUT_FILENO, b" of the Rust, ");
-    print(add(d.refused, p.refused));
-    io::write_all(STDOUT_FILENO, b" refusals by its reading of the rules; ");
-    print(add(d.differ, p.differ));
-    io::write_all(STDOUT_FILENO, b" differ\n");
+fn report(rt: &impl Print, d: Tally, p: Tally) -> io::Result<()> {
+    let drawings = add(d.accepted, d.refused);
+    let placements = add(p.accepted, p.refused);
+    let accepted = add(d.accepted, p.accepted);
+    let refused = add(d.refused, p.refused);
+    let differ = add(d.differ, p.differ);
+    print!(rt;
+        "{drawings} drawings and {placements} placements replayed; answers stored by compare: "
+    )?;
+    println!(rt;
+        "{accepted} of the Rust, {refused} refusals by its reading of the rules; {differ} differ"
+    )
 }
 
 // Replays a whole file, and says so where it is not one.
-fn replay(s: &[u8], mask: &mut [u8], words: &mut [u32]) {
+fn replay(rt: &impl Print, s: &[u8], mask: &mut [u8], words: &mut [u32]) -> io::Result<()> {
     if !same_bytes(s, 0, b"MZREPLAY") {
-        io::write_all(STDOUT_FILENO, b"not a file of answers\n");
-        return;
+        return println!(rt; "not a file of answers");
     }
     let d = drawings(s, 12, word_at(s, 8), mask, words);
     let p = placements(s, add(d.at, 4), word_at(s, d.at));
-    report(d, p);
-    if p.at != s.len() {
-        io::write_all(STDOUT_FILENO, b"the file does not end there\n");
+    let end = p.at;
+    report(rt, d, p)?;
+    if end != s.len() {
+        println!(rt; "the file does not end there")?;
     }
+    Ok(())
 }
 
 fn file_space() -> [u8; 1048576]
@@ -442,27 +477,55 @@ fn file_space() -> [u8; 1048576]
     [0; 1048576]
 }
 
+fn mask_space() -> [u8; 65536]
+    ensures { 65536 ≡ length result }
+{
+    [0; 65536]
+}
+
 fn word_space() -> [u32; 69632]
     ensures { 69632 ≡ length result }
 {
     [0; 69632]
 }
 
-fn replay_file(fd: i32) {
-    let mut space = file_space();
-    let mut mask = io::large_buffer();
-    let mut words = word_space();
-    let n = io::read_full(fd, &mut space);
-    replay(&space[..n], &mut mask, &mut words);
+// Reads until the buffer is full or the input ends, and answers how many bytes it put at the buffer's start.
+fn read_full<R: Read>(file: &mut R, buf: &mut [u8]) -> io::Result<usize>
+    ensures { IfOk result (λ n. n ≤ length buf.new) }
+{
+    let mut done = 0;
+    while done < buf.len() {
+        let n = file.read(&mut buf[done..])?;
+        if n == 0 {
+            break;
+        }
+        done += n;
+    }
+    Ok(done)
 }
 
-fn main() {
-    let path = b"answers";
-    let fd = os::open_read(path);
-    if fd < 0 {
-        os::fail(path);
-        return;
+fn replay_file<R: Read>(rt: &impl Print, file: &mut R) -> io::Result<()> {
+    let mut space = file_space();
+    let mut mask = mask_space();
+    let mut words = word_space();
+    let n = read_full(file, &mut space)?;
+    replay(rt, &space[..n], &mut mask, &mut words)
+}
+
+// Writes a line to standard error: what could not be opened, a colon and the system's words for why, without their number.
+fn fail(rt: &(impl Eprint + Alloc), what: &str, why: io::Error) -> io::Result<()> {
+    let text = why.to_string(rt.alloc())?;
+    match text.as_str().split_once(" (os error ") {
+        Some((words, _)) => eprintln!(rt; "{what}: {words}"),
+        None => eprintln!(rt; "{what}: {text}"),
     }
-    replay_file(fd);
-    libc::close(fd);
+}
+
+const ANSWERS: &str = "answers";
+
+fn main(rt: HostRuntime) -> io::Result<()> {
+    match File::open(&rt, ANSWERS) {
+        Ok(mut file) => replay_file(&rt, &mut file),
+        Err(why) => fail(&rt, ANSWERS, why),
+    }
 }
