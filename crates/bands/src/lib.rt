@@ -1,5 +1,7 @@
 // A label drawn band by band, into one mask: a pool that would not hold the cells of the whole label holds those of each band.
 // The mask, the counts and the words are those of the label drawn at once.
+#![tactic(auto)]
+
 ghost use Rattle.std.specs.Prelude.{◌≡◌, ◌+◌, ◌*◌, ◌-◌, ◌<◌, ◌≤◌, min, max, length};
 ghost use Rattle.path.specs.Inputs.{most_bytes};
 ghost use Rattle.label.specs.Checks.{rows};

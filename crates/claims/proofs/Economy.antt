@@ -1,7 +1,7 @@
 -- The rule that skips is an economy: a band sees the same of a pen that makes all marks and of one that leaves out those in rows outside it.
 -- A pen in a row outside the band leaves the band nothing until it enters another cell, so it is as good as a pen in no cell.
 use mathlib.Core.Path.{◌≡◌, refl, sym, ap, ◌∙◌}
-use mathlib.Core.Bool.{Bool, true, false, not}
+use mathlib.Core.Bool.{Bool, true, false}
 use mathlib.Core.List.{List, [], ◌∷◌, ◌++◌, append_assoc}
 use mathlib.Core.Logic.{◌⊎◌, inl, inr}
 use Rattle.fixed.specs.declared.FixedPoint.{FixedPoint}
@@ -11,7 +11,7 @@ use Rattle.pen.specs.Marks.{Mark, enter, give, Stand, nowhere, at, gave, after, 
 use Rattle.pen.specs.Laws.{after_append, whole_append, seen_append}
 use Rattle.line.specs.Range.{Reach}
 use Rattle.line.specs.Lines.{ends, line_all, skips, line_marks}
-use Rattle.line.specs.Trail.{StandsIn, Enters, none, Outside}
+use Rattle.line.specs.Trail.{StandsIn, Enters, Outside}
 use Rattle.line.proofs.Whole.{line_ends, line_none, line_whole, line_outside, line_skipped}
 use Rattle.line.proofs.Unseen.{StandsOutside, not_inside, gave_outside, leaving_unseen, unseen_left, unseen_after}
 

@@ -1,5 +1,7 @@
 // The five commands of a path, with their verbs and their transform.
 // Each command carries its coordinates as points of 32-bit floats.
+#![tactic(auto)]
+
 ghost use Rattle.std.specs.Prelude.{◌≡◌};
 ghost use Rattle.command.specs.Commands.{verb_of, moved_all, is_move, is_close, draws};
 

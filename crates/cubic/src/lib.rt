@@ -1,5 +1,7 @@
 // Cubics, from zeno's raster.rs: a cubic is split in halves over a stack of points until each part is nearly straight,
 // and a line goes to the end of each part. p0 is a cubic's end and p3 its start, as in the Rust.
+#![tactic(auto)]
+
 ghost use Rattle.std.specs.Prelude.{◌≡◌};
 ghost use Rattle.storage.specs.Answers.{Within};
 ghost use Rattle.fixed.specs.Fixed.{apart};

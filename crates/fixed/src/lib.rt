@@ -1,5 +1,7 @@
 // 24.8 numbers, from the end of zeno's raster.rs: points of floats as fixed points by the point rule, the cell and
 // the fraction of a number, and curves split in two. A number z is held as z + BIAS, so that no number is below zero.
+#![tactic(auto)]
+
 ghost use Rattle.std.specs.Prelude.{◌≡◌, ◌+◌, ◌*◌, ◌/◌};
 ghost use Rattle.fixed.specs.Fixed.{to_fixed, spot_of, cell, fraction};
 ghost use Rattle.fixed.specs.Scaled.{fix_from};

@@ -1,5 +1,7 @@
 // Floats of 32 bits as the port needs them: a float from its four bytes, whether it is finite, a float cut toward zero from its bits,
 // and a float rounded down or up to a whole number.
+#![tactic(auto)]
+
 ghost use Rattle.std.specs.Prelude.{◌≡◌};
 ghost use Rattle.std.specs.Float.{binary32};
 ghost use Rattle.std.specs.Float.Ieee.{of_bits};

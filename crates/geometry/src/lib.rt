@@ -1,5 +1,7 @@
 // Points, transforms, boxes and the placement of a mask, all by value: zeno's geometry.rs without angles and `invert`.
 // Each product and sum of floats is rounded once, in the order in which it stands.
+#![tactic(auto)]
+
 ghost use Rattle.std.specs.Prelude.{◌≡◌, ◌+◌, ◌-◌, ◌≤◌, ◌^◌};
 ghost use Rattle.geometry.specs.Affine.{point_of, shifted, identity_of, transform_of, translation_of, scale_of, combine_of, translated_of, moved, moved_vector};
 ghost use Rattle.geometry.specs.Box.{lower, upper, bounds_of, box_at, around, empty_of, width_of, height_of, inside_of};

@@ -1,5 +1,7 @@
 // The public face: a label drawn from a path list into lent memory.
 // `draw` answers whatever it is lent; a refusal leaves the mask as it was.
+#![tactic(auto)]
+
 ghost use Rattle.std.specs.Prelude.{◌≡◌, ◌&&◌, ◌+◌, ◌*◌, ◌-◌, ◌≤◌, ltb, length};
 ghost use Rattle.label.specs.Checks.{sizes_of, checked_of};
 ghost use Rattle.path.specs.Inputs.{most_bytes};

@@ -1,5 +1,7 @@
 // Lines: a line is followed through the sides of its cells and gives each cell a pair. A 24.8 number z is held as
 // z + 2^21 and a cell as z + 8192. Through which side a slanted line leaves a cell is told by one number, p, held as p + BIAS.
+#![tactic(auto)]
+
 ghost use Rattle.std.specs.Prelude.{◌≡◌, cond, [], ◌∷◌, ◌+◌, ◌-◌, ◌*◌, ◌/◌, ◌<◌, ◌≤◌, ◌^◌};
 ghost use Rattle.float.specs.Differences.{◌⊖◌};
 ghost use Rattle.storage.specs.Answers.{Within};

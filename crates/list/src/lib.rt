@@ -1,5 +1,7 @@
 // One record of a path list: a command with the place of the next record, the end, or a reason to refuse.
 // A record has two bytes of length, two of kind and four of each coordinate, the lowest byte first.
+#![tactic(auto)]
+
 ghost use Rattle.std.specs.Prelude.{◌≡◌, ◌+◌, ◌≤◌, ◌<◌, length};
 ghost use Rattle.list.specs.Records.{le16, float_at, point_at, body_of, length_of, record_of, step_at, number_of};
 

@@ -1,4 +1,6 @@
 // The C face (bindings/mosszephyr.h). Each function is thin: it hands its arguments to a crate below, in that crate's types.
+#![tactic(auto)]
+
 ghost use Rattle.std.specs.Prelude.{◌≡◌};
 ghost use Rattle.geometry.specs.Affine.{point_of};
 ghost use Rattle.paper.specs.Floats.{identity, scale, translation, combine, then_translate, moved, moved_vector};

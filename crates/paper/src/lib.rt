@@ -1,5 +1,7 @@
 // The rules of drawing a label, over whole numbers with a sign: the definitions stand in specs/, section by section as docs/RULES.md has them, and
 // what the calls promise here is what those say, for every input. Each hands its arguments to a crate below.
+#![tactic(auto)]
+
 ghost use Rattle.std.specs.Prelude.{◌≡◌};
 ghost use Rattle.paper.specs.Drawing as drawing;
 ghost use Rattle.paper.specs.Drawing.{left};

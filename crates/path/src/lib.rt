@@ -1,5 +1,7 @@
 // A path list as a whole: its records are judged front to back, and an accepted list is drawn stroke by stroke into the pool.
 // Also the refusals of the table in docs/RULES.md, which all public answers share.
+#![tactic(auto)]
+
 ghost use Rattle.std.specs.Prelude.{◌≡◌, [], ◌∷◌, ◌≤◌, ◌<◌, length};
 ghost use Rattle.storage.specs.Answers.{most_rows};
 ghost use Rattle.pen.specs.Drawing.{Ready};

@@ -1,5 +1,7 @@
 // The pen: the cell that it is in, the pair that it has gathered there, and how the pool stands. Entering a cell stores the pair
 // of the cell that it leaves. The pen goes in and comes back by value, beside the lent words.
+#![tactic(auto)]
+
 ghost use Rattle.std.specs.Prelude.{◌≡◌, ◌+◌, ◌-◌, ◌<◌, max, [], ◌∷◌};
 ghost use Rattle.storage.specs.Answers.{Within};
 ghost use Rattle.pen.specs.Marks.{enter, gave, pair_of, leaving, last_of};

@@ -1,5 +1,7 @@
 // The public face for where a path list lies: the box of its points, and the placement of its mask.
 // Both refuse by 6 to 12 and 18 of the table in docs/RULES.md, and answer whatever they are lent.
+#![tactic(auto)]
+
 ghost use Rattle.std.specs.Prelude.{◌≡◌};
 ghost use Rattle.fixed.specs.Fixed.{spot_of};
 ghost use Rattle.geometry.specs.Box.{box_from};

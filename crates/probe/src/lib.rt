@@ -1,5 +1,7 @@
 // What the runs against the Rust need beside the C face, in an archive of its own: the cells of a drawing, a box of points, a box placed, and
 // pairs stored with no drawing.
+#![tactic(auto)]
+
 ghost use Rattle.std.specs.Prelude.{◌≡◌};
 ghost use Rattle.geometry.specs.Placing.{placed_of};
 ghost use Rattle.storage.specs.Answers.{Room, Deposited};

@@ -1,5 +1,7 @@
 // Quads, from zeno's raster.rs. A quad is halved over a stack of 33 points, and a line goes to the end of each part: the
 // pen makes the marks of those lines. The top of the stack is the part that comes next, its end first.
+#![tactic(auto)]
+
 ghost use Rattle.std.specs.Prelude.{◌≡◌, ◌^◌, ◌≤◌};
 ghost use Rattle.fixed.specs.Fixed.{cell, apart};
 ghost use Rattle.storage.specs.Answers.{Within};

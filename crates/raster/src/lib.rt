@@ -1,5 +1,7 @@
 // A path's strokes in fixed numbers, drawn one by one: the pen point, the subpath's start and the pen go in by value and come
 // back, beside the lent words. zeno's `Rasterizer` without its storage and its sweep.
+#![tactic(auto)]
+
 ghost use Rattle.std.specs.Prelude.{◌≡◌};
 ghost use Rattle.storage.specs.Answers.{Within};
 ghost use Rattle.pen.specs.Drawing.{Ready, Added, Drew, stand_of};

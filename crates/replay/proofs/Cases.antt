@@ -1,5 +1,5 @@
 -- Cases are counted one by one: none differs where each agrees.
-use Rattle.std.proofs.Common.{◌≡◌, ℕ, ◌+◌, ◌<◌, ◌≤◌, ◌^◌, ◌↔◌, List, Bool, true, false, not, cond, IsTrue, refl, sym, ◌∙◌, arith, add-one, below_more}
+use Rattle.std.proofs.Common.{◌≡◌, ℕ, ◌+◌, ◌<◌, ◌≤◌, ◌^◌, ◌↔◌, List, Bool, true, false, not, cond, refl, arith, add-one, below_more}
 use Rattle.replay.specs.Answers.{onward, after_drawing, nth_drawing, after_placement, nth_placement}
 
 -- the count of those that differ stays 0 where one more agrees, and is above 0 where it does not

@@ -1,9 +1,9 @@
 -- What `insert` and `store` leave, by where the walk ended.
-use Rattle.std.proofs.Common.{◌≡◌, ℕ, zero, suc, ◌+◌, ◌-◌, ◌*◌, ◌^◌, ◌<◌, ◌≤◌, true, false, eqb, List, [], ◌∷◌, ◌++◌, length, get_or, sym, refl, ◌∙◌, subst, true≢false, add-one, arith, length-set, le-ltb, lt-ltb, eq-eqb, eqb-true}
+use Rattle.std.proofs.Common.{◌≡◌, ℕ, zero, suc, ◌+◌, ◌-◌, ◌*◌, ◌^◌, ◌<◌, ◌≤◌, true, false, List, [], ◌∷◌, ◌++◌, length, get_or, sym, refl, ◌∙◌, subst, true≢false, add-one, arith, length-set, le-ltb, lt-ltb, eq-eqb, eqb-true}
 use Rattle.storage.specs.declared.Kept.{Kept}
 use Rattle.storage.specs.declared.Kept.TheVariants.{Cells, Full}
 use Rattle.storage.specs.Deposits.{per_row, place_of, Deposit, given}
-use Rattle.storage.specs.Cells.{half, low, high, place_at, next_in, links_of, link_at, link_word, Holds, with_pair, with_cell, with_next, with_back, with_linked, with_new}
+use Rattle.storage.specs.Cells.{half, low, place_at, next_in, links_of, link_at, link_word, Holds, with_pair, with_cell, with_next, with_back, with_linked, with_new}
 use Rattle.storage.specs.Answers.{Sought, is_at, Stored}
 use Rattle.storage.proofs.Sums.{distinct_new}
 use Rattle.storage.proofs.Held.{held_again, held_back, held_new}

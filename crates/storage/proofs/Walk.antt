@@ -1,6 +1,6 @@
 -- The walks along a row's list. On words of any content they keep to the words. The walk back ends at a cell of the row that is not past the place, or at
 -- the row's start; from there the walk on keeps to the row of a pool, and has passed every lower place.
-use Rattle.std.proofs.Common.{◌≡◌, ℕ, zero, suc, ◌+◌, ◌-◌, ◌*◌, ◌/◌, ◌<◌, ◌≤◌, eqb, List, get_or, sym, refl, ap, ◌∙◌, arith}
+use Rattle.std.proofs.Common.{◌≡◌, ℕ, zero, suc, ◌+◌, ◌-◌, ◌*◌, ◌/◌, ◌<◌, ◌≤◌, eqb, List, get_or, refl, ap, ◌∙◌, arith}
 use Rattle.storage.specs.Deposits.{per_row, Deposit}
 use Rattle.storage.specs.Cells.{Named, low, high, Link, place_at, next_in, link_at, Holds}
 use Rattle.storage.specs.Answers.{Upto, Sought, is_at}

@@ -4,6 +4,8 @@
 // saves the walk from the row's start, and no answer turns on it.
 // A place is PER_ROW times the row, plus the column counted from 0 for column -1.
 // Each function stays inside the words it is lent and ends, whatever they hold.
+#![tactic(auto)]
+
 ghost use Rattle.std.specs.Prelude.{◌≡◌, ◌+◌, ◌*◌, ◌/◌, ◌%◌, ◌^◌, ◌<◌, ◌≤◌, ◌++◌, length, drop, replicate, slice_index};
 ghost use Rattle.storage.specs.Deposits.{per_row};
 ghost use Rattle.storage.specs.Cells.{place_at, half, next_in, back_in, links_of, link_word, with_sum, with_pair, with_cell, with_next, with_back, with_new};

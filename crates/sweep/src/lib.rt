@@ -1,5 +1,7 @@
 // From cells to bytes, `coverage` and the sweep of the Rust: each row's cells in rising column, a running sum of their cover, a byte a pixel.
 // Each function stays inside the words and the mask it is lent and ends, whatever they hold.
+#![tactic(auto)]
+
 ghost use Rattle.std.specs.Prelude.{◌≡◌, ◌+◌, ◌-◌, ◌*◌, ◌%◌, ◌^◌, ◌<◌, ◌≤◌, min, length};
 ghost use Rattle.sweep.specs.Pixels.{signed, byte_of};
 ghost use Rattle.sweep.specs.Rows.{Painted, CellSwept, RowFits, RowSwept};

@@ -1,12 +1,7 @@
-use Prim.Native.Nat.{◌+◌, ◌-◌, ◌≤◌}
-use mathlib.Core.Path.{◌≡◌, refl, ◌∙◌}
-use native.Mathlib.Omega.{arith}
+use Prim.Native.Nat.{◌+◌, ◌-◌}
+use mathlib.Core.Path.{refl, ◌∙◌}
 use lib.ListN.{length}
-use borrow.Author.Rules.{rules}
-use Rattle.label.proofs.Pouring.{pours}
-use Rattle.claims.specs.Bands.{band_of}
 use Rattle.bands.specs.InBands.{band_end}
-use Rattle.bands.proofs.Rows.{band_sized}
 use Rattle.bands.proofs.Counting.{Counting, counting_none, counting_more, counted_all, counted_full}
 use Rattle.bands.proofs.count.Goals as goal
 

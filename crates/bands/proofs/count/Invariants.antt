@@ -1,14 +1,8 @@
 -- The bands are counted one after the other, until one does not fit.
-use Prim.Native.Nat.{◌+◌, ◌-◌, ◌≤◌}
-use mathlib.Core.Path.{◌≡◌, refl, ◌∙◌}
-use native.Mathlib.Omega.{arith}
+use Prim.Native.Nat.{◌-◌}
+use mathlib.Core.Path.{◌≡◌}
 use lib.ListN.{length}
-use borrow.Author.Rules.{rules}
-use Rattle.label.proofs.Pouring.{pours}
-use Rattle.claims.specs.Bands.{band_of}
-use Rattle.bands.specs.InBands.{band_end}
-use Rattle.bands.proofs.Rows.{band_sized}
-use Rattle.bands.proofs.Counting.{Counting, counting_none, counting_more, counted_all, counted_full}
+use Rattle.bands.proofs.Counting.{Counting}
 use Rattle.bands.proofs.count.Given as goal
 
 abbrev pub invariant-loop-at : goal.invariant-loop-at

@@ -5,7 +5,6 @@ use lib.ListN.{length}
 use Rattle.label.proofs.Sizes.{fitting, short_list}
 use Rattle.label.proofs.Drawing.{turned, faulty, drawn}
 use Rattle.bands.proofs.Whole.{promised}
-use borrow.Author.Rules.{rules}
 use Rattle.bands.proofs.draw_in_bands.Goals as goal
 
 pub judge-requires : goal.judge-requires

@@ -3,7 +3,6 @@ use mathlib.Core.Path.{◌≡◌}
 use native.Mathlib.Omega.{arith}
 use lib.ListN.{length}
 use Rattle.bands.proofs.Whole.{inked_full, inked_cells}
-use borrow.Author.Rules.{rules}
 use Rattle.bands.proofs.ink.Goals as goal
 
 pub returns-in-Full : goal.returns-in-Full

@@ -1,13 +1,12 @@
 use Prim.Native.Nat.{ℕ, ◌+◌, ◌*◌, ◌-◌, ◌≤◌, ◌<◌}
-use mathlib.Core.Path.{◌≡◌, refl, ap, ◌∙◌}
+use mathlib.Core.Path.{◌≡◌, ap, ◌∙◌}
 use native.Mathlib.Omega.{arith}
 use mathlib.Core.List.{List}
 use lib.ListN.{length}
 use Rattle.label.specs.declared.Label.{Label}
 use Rattle.label.specs.Checks.{most_pixels, most_pitch}
 use Rattle.bands.specs.Steps.{line_of}
-use Rattle.bands.proofs.Rows.{band_sized}
-use Rattle.bands.proofs.Painting.{Painting, painting_none, part_in, part_near, part_lent, painting_again, painted_all}
+use Rattle.bands.proofs.Painting.{part_in, part_near, painting_again, painted_all}
 use Rattle.bands.proofs.paint.Goals as goal
 
 record Room (l : Label) (at next line : ℕ) (mask : List ℕ) : Type 0 where

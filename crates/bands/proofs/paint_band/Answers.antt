@@ -1,7 +1,5 @@
 -- What was poured is swept into the band's part of the mask.
-use Rattle.label.proofs.Pouring.{pours, sweeps}
-use Rattle.bands.proofs.Painting.{not_poured, band_swept}
-use borrow.Author.Rules.{rules}
+use Rattle.bands.proofs.Painting.{band_swept}
 use Rattle.bands.proofs.paint_band.Goals as goal
 
 pub returns-in-Cells : goal.returns-in-Cells

@@ -1,7 +1,6 @@
 -- A curve all of whose points lie past one edge of the band makes no marks; any other is handed to `flatten`. Assumes nothing.
 use Rattle.pen.proofs.Adding.{drew_none}
 use Rattle.cubic.proofs.Tests.{past_none, all_ahead_is, not_all}
-use borrow.Author.Rules.{rules}
 use Rattle.cubic.proofs.curve_to.Goals as goal
 
 pub returns-then-are_past : goal.returns-then-are_past

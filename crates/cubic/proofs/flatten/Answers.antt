@@ -1,13 +1,6 @@
 use mathlib.Core.Path.{sym, ◌∙◌}
 use native.Mathlib.Omega.{arith}
-use borrow.Author.Rules.{rules}
-use Rattle.fixed.specs.Split.{point_of}
-use Rattle.line.specs.Lines.{along}
-use Rattle.pen.proofs.Adding.{still_ready}
-use Rattle.cubic.specs.Cubics.{cubic_points}
-use Rattle.cubic.proofs.Run.{steps}
-use Rattle.cubic.proofs.Stack.{stack}
-use Rattle.cubic.proofs.Going.{Going, going_started, going_split, going_drawn, going_done, split_less, drawn_less, room}
+use Rattle.cubic.proofs.Going.{going_started, going_split, going_drawn, going_done, split_less, drawn_less, room}
 use Rattle.cubic.proofs.flatten.Goals as goal
 
 pub loop-arc-init : goal.loop-arc-init

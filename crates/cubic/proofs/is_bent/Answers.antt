@@ -1,6 +1,5 @@
 -- The sums fit 64 bits, and each test is the rule's. Assumes nothing.
 use Rattle.cubic.proofs.Tests.{bent_first, bent_second}
-use borrow.Author.Rules.{rules}
 use Rattle.cubic.proofs.is_bent.Goals as goal
 
 pub returns-then-is_far : goal.returns-then-is_far

@@ -1,6 +1,5 @@
 -- The four points are those of the cubic, and each axis is tested by the rule. Assumes nothing.
 use Rattle.cubic.proofs.Tests.{curved_first, curved_second}
-use borrow.Author.Rules.{rules}
 use Rattle.cubic.proofs.is_curved.Goals as goal
 
 pub returns-then-is_bent : goal.returns-then-is_bent

@@ -1,7 +1,6 @@
 -- Each return is the case of `fix_from` that the tests before it pick. Assumes nothing.
 use borrow.Author.Tests.{le-leb, lt-leb}
 use Rattle.fixed.specs.Scaled.{fix_from}
-use borrow.Author.Rules.{rules}
 use Rattle.fixed.proofs.fix_of.Goals as goal
 
 pub returns-then-below : goal.returns-then-below

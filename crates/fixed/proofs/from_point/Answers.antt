@@ -1,8 +1,6 @@
 -- Each return is the case of `spot_from` that the two answers of `to_fixed` pick. Assumes nothing.
 use mathlib.Core.Path.{sym}
-use native.Mathlib.Omega.{arith}
-use borrow.Author.Rules.{rules}
-use Rattle.geometry.proofs.Reach.{byte_is, byte_le}
+use Rattle.geometry.proofs.Reach.{byte_is}
 use Rattle.fixed.specs.Fixed.{spot_from, spot_of}
 use Rattle.fixed.proofs.from_point.Goals as goal
 

@@ -1,6 +1,5 @@
 -- The points are those that the five calls give. Assumes nothing.
 use Rattle.fixed.specs.Split.{split_cubic}
-use borrow.Author.Rules.{rules}
 use Rattle.fixed.proofs.split_cubic.Goals as goal
 
 pub returns : goal.returns

@@ -1,6 +1,5 @@
 -- The points are those that the three calls give. Assumes nothing.
 use Rattle.fixed.specs.Split.{split_quad}
-use borrow.Author.Rules.{rules}
 use Rattle.fixed.proofs.split_quad.Goals as goal
 
 pub returns : goal.returns

@@ -3,7 +3,6 @@ use mathlib.Core.Path.{◌∙◌, ap}
 use denote.Floats.{passes}
 use Rattle.fixed.specs.Scaled.{fix_from}
 use Rattle.fixed.proofs.Exact.{scaled_is}
-use borrow.Author.Rules.{rules}
 use Rattle.fixed.proofs.to_fixed.Goals as goal
 
 pub returns : goal.returns

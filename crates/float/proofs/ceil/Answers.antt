@@ -1,7 +1,6 @@
 -- `float::ceil` meets its contract. Assumes nothing.
 use mathlib.Core.Path.{ap}
 use lib.Ieee.{neg}
-use borrow.Author.Rules.{rules}
 use Rattle.float.specs.Round.{ceil_of}
 use Rattle.float.proofs.ceil.Goals as goal
 

@@ -5,7 +5,6 @@ use native.Mathlib.Omega.{arith}
 use lib.Dec.{T}
 use lib.Ieee.{binary32, fits}
 use denote.Floats.{passes}
-use borrow.Author.Rules.{rules}
 use Rattle.float.proofs.Fitting.{near_small, whole_in_float}
 use Rattle.float.proofs.Rounding.{floor_below, floor_above, floor_whole, floor_far}
 use Rattle.float.proofs.floor.Goals as goal

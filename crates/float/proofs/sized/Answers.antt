@@ -1,14 +1,12 @@
 -- `float::sized` meets its contract: w is read from the fields of its bits. Assumes nothing.
-use mathlib.Core.Path.{◌≡◌, sym, ap, ◌∙◌, subst}
+use mathlib.Core.Path.{◌≡◌, sym, ap, ◌∙◌}
 use mathlib.Core.Bool.{Bool, true, not}
-use Prim.Native.Nat.{ℕ, ◌-◌, ◌/◌, ◌%◌, ◌*◌, ◌^◌, ◌<◌, ◌≤◌}
+use Prim.Native.Nat.{ℕ, ◌-◌, ◌/◌, ◌%◌, ◌*◌, ◌^◌, ◌≤◌}
 use native.Mathlib.Omega.{arith}
 use lib.Dec.{T, eqb, leb}
-use lib.Pow.{pow_pos}
 use lib.Ieee.{Float, binary32, to_bits, fits, ne, of_fields}
 use lib.Ieee.Compare.{differs_from_itself}
 use denote.Floats.{passes}
-use borrow.Author.Rules.{rules}
 use Rattle.float.specs.declared.Cut.{Cut}
 use Rattle.float.specs.declared.Cut.TheVariants.{Near, Far}
 use Rattle.float.specs.Cut.{sized_of}

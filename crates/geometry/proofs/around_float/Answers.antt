@@ -2,9 +2,7 @@
 use mathlib.Core.Path.{◌≡◌, sym, ◌∙◌}
 use Rattle.float.specs.declared.Cut.TheVariants.{Near}
 use Rattle.float.specs.Cut.{cut_of}
-use native.Mathlib.Omega.{arith}
-use Rattle.geometry.proofs.Reach.{byte_le, too_far, around_below, around_above, around_far}
-use borrow.Author.Rules.{rules}
+use Rattle.geometry.proofs.Reach.{too_far, around_below, around_above, around_far}
 use Rattle.geometry.proofs.around_float.Goals as goal
 
 pub returns-then-whole-ge-REACH : goal.returns-then-whole-ge-REACH

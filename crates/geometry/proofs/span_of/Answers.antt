@@ -2,7 +2,6 @@
 use mathlib.Core.Path.{sym, ap, ◌∙◌}
 use Rattle.geometry.specs.declared.Span.TheVariants.{Over}
 use Rattle.geometry.proofs.Sides.{found, lost, over, first_lost, second_lost}
-use borrow.Author.Rules.{rules}
 use Rattle.geometry.proofs.span_of.Goals as goal
 
 pub returns-in-Near-around_float : goal.returns-in-Near-around_float

@@ -3,9 +3,8 @@ use mathlib.Core.Path.{sym, ◌∙◌}
 use native.Mathlib.Omega.{arith}
 use lib.ListN.{length}
 use Rattle.label.proofs.Sizes.{fitting, short_list}
-use Rattle.label.proofs.Pouring.{pours, few_cells, early_record}
+use Rattle.label.proofs.Pouring.{pours, early_record}
 use Rattle.label.proofs.Celling.{celled_turned, celled_faulty, celled_full, celled_cells}
-use borrow.Author.Rules.{rules}
 use Rattle.label.proofs.cells.Goals as goal
 
 pub judge-requires : goal.judge-requires

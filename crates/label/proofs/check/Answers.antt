@@ -1,7 +1,6 @@
 -- 1 to 5 and then 6 and 7.
 use mathlib.Core.Path.{sym, ◌∙◌}
 use Rattle.label.proofs.Sizes.{sizes_then, sizes_refuse}
-use borrow.Author.Rules.{rules}
 use Rattle.label.proofs.check.Goals as goal
 
 pub returns-in-Fine : goal.returns-in-Fine

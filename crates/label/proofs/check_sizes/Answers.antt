@@ -1,7 +1,6 @@
 -- One law of `Sizes` for each test.
 use mathlib.Core.Path.{sym, ◌∙◌}
 use Rattle.label.proofs.Sizes.{too_wide, too_high, turned_band, band_below, low_pitch, high_pitch, short_mask, few_words, all_fit}
-use borrow.Author.Rules.{rules}
 use Rattle.label.proofs.check_sizes.Goals as goal
 
 pub returns-then-l-gt-MOST_PIXELS : goal.returns-then-l-gt-MOST_PIXELS

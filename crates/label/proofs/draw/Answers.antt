@@ -3,7 +3,6 @@ use mathlib.Core.Path.{sym, ◌∙◌}
 use lib.ListN.{length}
 use Rattle.label.proofs.Sizes.{fitting, short_list}
 use Rattle.label.proofs.Drawing.{draw_is, turned, faulty, drawn}
-use borrow.Author.Rules.{rules}
 use Rattle.label.proofs.draw.Goals as goal
 
 pub judge-requires : goal.judge-requires

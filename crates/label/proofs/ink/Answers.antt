@@ -1,7 +1,5 @@
 -- What was poured is told by the answer: a full pool is 13, else the rows are swept; the words are wiped either way.
-use native.Mathlib.Omega.{arith}
-use Rattle.label.proofs.Pouring.{pours, few_cells, early_record, sweeps, inked_full, inked_cells}
-use borrow.Author.Rules.{rules}
+use Rattle.label.proofs.Pouring.{inked_full, inked_cells}
 use Rattle.label.proofs.ink.Goals as goal
 
 pub returns-in-Full : goal.returns-in-Full

@@ -1,6 +1,5 @@
 -- A pair is given, and then the next cell entered.
 use Rattle.pen.proofs.Adding.{drew_then, drew_give}
-use borrow.Author.Rules.{rules}
 use Rattle.line.proofs.cross.Goals as goal
 
 pub returns : goal.returns

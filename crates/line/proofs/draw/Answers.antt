@@ -1,8 +1,5 @@
 -- Each way through the tests is a case of the rule.
 use mathlib.Core.Path.{sym, ◌∙◌}
-use mathlib.Core.Logic.{⊎_elim}
-use native.Mathlib.Omega.{arith}
-use borrow.Author.Rules.{rules}
 use Rattle.pen.proofs.Adding.{drew_none, drew_give}
 use Rattle.line.proofs.Cases.{marks_skipped, marks_kept, marks_within, marks_level, marks_vertical, marks_slanted, sides_vertical}
 use Rattle.line.proofs.Walking.{drew_as}

@@ -1,8 +1,6 @@
 -- Both products are small, and their difference is the product of the rules.
 use mathlib.Core.Path.{◌∙◌}
-use native.Mathlib.Omega.{arith}
-use Rattle.line.proofs.Pairs.{low_mul, word_area}
-use borrow.Author.Rules.{rules}
+use Rattle.line.proofs.Pairs.{word_area}
 use Rattle.line.proofs.give.Goals as goal
 
 pub returns : goal.returns

@@ -1,6 +1,5 @@
 -- The points as the ends of a line.
-use borrow.Author.Rules.{rules}
-use Rattle.line.proofs.Cases.{line_is, reach_bounded}
+use Rattle.line.proofs.Cases.{line_is}
 use Rattle.line.proofs.line_to.Goals as goal
 
 pub returns : goal.returns

@@ -1,7 +1,6 @@
 -- p there is held in natural numbers.
 use native.Mathlib.Omega.{arith}
 use Rattle.line.proofs.Begun.{begun_line}
-use borrow.Author.Rules.{rules}
 use Rattle.line.proofs.product.Goals as goal
 
 pub returns : goal.returns

@@ -1,7 +1,6 @@
 -- By the side through which the line leaves: the law of the course says that the way is free, and `stepped-..` that the numbers are the rules'.
 use mathlib.Core.Path.{◌≡◌, sym, ◌∙◌, subst}
 use native.Mathlib.Omega.{arith}
-use borrow.Author.Rules.{rules}
 use Rattle.float.specs.Differences.{◌⊖◌}
 use Rattle.line.specs.declared.Side.{Side}
 use Rattle.line.specs.declared.Side.TheVariants.{Left, Next, Right, Previous}

@@ -2,12 +2,11 @@ use mathlib.Core.Path.{refl, ap, ◌∙◌}
 use mathlib.Core.List.{[]}
 use lib.Dec.{ltb}
 use native.Mathlib.Omega.{arith}
-use borrow.Author.Rules.{rules}
-use Rattle.pen.proofs.Adding.{drew_then, drew_none, drew_give, still_ready}
+use Rattle.pen.proofs.Adding.{drew_then, drew_none, drew_give}
 use Rattle.line.specs.declared.At.{At}
 use Rattle.line.specs.Walk.{upright, row_side}
 use Rattle.line.specs.Course.{rows_to}
-use Rattle.line.proofs.Walking.{row_way, Rising, drawn_more, drawn_all, drew_as, upright_step, upright_last, row_less, row_level, row_out, row_aside, row_few, row_point, row_start}
+use Rattle.line.proofs.Walking.{drawn_more, drawn_all, drew_as, upright_step, upright_last, row_level, row_few, row_point, row_start}
 use Rattle.line.proofs.vertical.Goals as goal
 
 pub loop-at-init : goal.loop-at-init

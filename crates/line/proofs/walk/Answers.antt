@@ -1,13 +1,7 @@
 use mathlib.Core.Path.{refl}
-use mathlib.Core.Logic.{⊎_elim}
 use mathlib.Core.List.{[]}
-use native.Mathlib.Omega.{arith}
-use borrow.Author.Tests.{eqb-true, eqb-false, not-true, not-false}
-use Rattle.float.specs.Differences.{◌⊖◌}
-use Rattle.pen.proofs.Adding.{drew_then, drew_none, drew_give, still_ready}
-use Rattle.line.specs.Walk.{crossed}
-use Rattle.line.specs.Course.{B, togo}
-use Rattle.line.proofs.Walking.{Running, drawn_more, drawn_all, drew_as, crossed_step, crossed_last, far_x, far_y}
+use Rattle.pen.proofs.Adding.{drew_then, drew_none, drew_give}
+use Rattle.line.proofs.Walking.{drawn_more, drawn_all, drew_as, crossed_step, crossed_last}
 use Rattle.line.proofs.walk.Goals as goal
 
 pub loop-here-init : goal.loop-here-init

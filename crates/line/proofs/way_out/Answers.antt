@@ -2,9 +2,8 @@
 use mathlib.Core.Path.{sym}
 use mathlib.Core.Logic.{⊎_elim}
 use native.Mathlib.Omega.{arith}
-use borrow.Author.Tests.{ltb-true, ltb-false, leb-true, leb-false}
+use borrow.Author.Tests.{ltb-true, leb-true}
 use Rattle.line.proofs.Ways.{to_left, to_next, to_right, to_previous}
-use borrow.Author.Rules.{rules}
 use Rattle.line.proofs.way_out.Goals as goal
 
 pub returns-then-q-gt-BIAS : goal.returns-then-q-gt-BIAS

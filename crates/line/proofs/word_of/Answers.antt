@@ -1,5 +1,4 @@
 -- The difference is taken from 2^32 more.
-use borrow.Author.Rules.{rules}
 use Rattle.line.proofs.Pairs.{word_sub}
 use Rattle.line.proofs.word_of.Goals as goal
 

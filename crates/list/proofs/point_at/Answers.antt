@@ -1,5 +1,4 @@
 -- `list::point_at` meets its contract: its two floats are those that `point_at` names. Assumes nothing.
-use borrow.Author.Rules.{rules}
 use Rattle.list.specs.Records.{point_at}
 use Rattle.list.proofs.point_at.Goals as goal
 

@@ -1,7 +1,6 @@
 -- `list::record_of` meets its contract: each answer is the case of `record_of` that its tests lead to. Assumes nothing.
 use native.Mathlib.Omega.{arith}
 use Rattle.list.proofs.Cases.{kind_low, kind_high, length_wrong, body_cut, whole}
-use borrow.Author.Rules.{rules}
 use Rattle.list.proofs.record_of.Goals as goal
 
 pub returns-then-kind-lt1 : goal.returns-then-kind-lt1

@@ -2,7 +2,6 @@
 use mathlib.Core.Path.{◌∙◌}
 use native.Mathlib.Omega.{arith}
 use Rattle.list.proofs.Cases.{ended, header_cut, header_whole}
-use borrow.Author.Rules.{rules}
 use Rattle.list.proofs.step_at.Goals as goal
 
 pub returns-then-n-at : goal.returns-then-n-at

@@ -1,6 +1,5 @@
 -- What `label` promises, in the paper's words.
 use Rattle.paper.proofs.Draws.{call_draws}
-use borrow.Author.Rules.{rules}
 use Rattle.paper.proofs.draw.Goals as goal
 
 pub returns : goal.returns

@@ -1,6 +1,5 @@
 -- What `bands` promises, in the paper's words.
 use Rattle.paper.proofs.Draws.{call_draws_in_bands}
-use borrow.Author.Rules.{rules}
 use Rattle.paper.proofs.draw_in_bands.Goals as goal
 
 pub returns : goal.returns

@@ -1,7 +1,6 @@
 -- What `placing` promises, in the paper's words.
 use mathlib.Core.Path.{sym}
 use Rattle.paper.proofs.Placing.{placement_held}
-use borrow.Author.Rules.{rules}
 use Rattle.paper.proofs.placement.Goals as goal
 
 pub returns : goal.returns

@@ -1,8 +1,6 @@
 -- 6 and then 7, as `inputs_of` asks them.
 use mathlib.Core.Path.{sym, ◌∙◌}
-use borrow.Author.Tests.{not-true, not-false}
 use Rattle.path.proofs.Finite.{bad_transform, bad_offset, too_long, all_well}
-use borrow.Author.Rules.{rules}
 use Rattle.path.proofs.check_inputs.Goals as goal
 
 pub returns-then-not-finite_transform : goal.returns-then-not-finite_transform

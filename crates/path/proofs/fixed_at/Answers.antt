@@ -1,7 +1,6 @@
 -- A spot inside is within the point rule, and so within reach; the corner is.
 use mathlib.Core.Path.{sym, ◌∙◌}
 use Rattle.path.proofs.Points.{fixed_in, fixed_out, spot_near, corner_near}
-use borrow.Author.Rules.{rules}
 use Rattle.path.proofs.fixed_at.Goals as goal
 
 pub returns-in-At : goal.returns-in-At

@@ -1,10 +1,8 @@
-use Prim.Native.Nat.{◌-◌, ◌≤◌}
+use Prim.Native.Nat.{◌-◌}
 use mathlib.Core.Path.{sym, ◌∙◌}
 use native.Mathlib.Omega.{arith}
-use lib.ListN.{length}
-use borrow.Author.Rules.{rules}
 use Rattle.list.proofs.Next.{further}
-use Rattle.path.proofs.Walk.{Going, started, ended, turned, faulty, few_more, goes_on}
+use Rattle.path.proofs.Walk.{started, ended, turned, faulty, few_more, goes_on}
 use Rattle.path.proofs.judge.Goals as goal
 
 pub loop-why-init : goal.loop-why-init

@@ -1,6 +1,5 @@
 -- The heads are cleared, so the words hold nothing; then the strokes are stored.
-use Rattle.path.proofs.Pouring.{ready, poured}
-use borrow.Author.Rules.{rules}
+use Rattle.path.proofs.Pouring.{poured}
 use Rattle.path.proofs.pour.Goals as goal
 
 pub returns : goal.returns

@@ -12,10 +12,10 @@ returns-then-draws c =
     let a = c.args in
     -- behind 11
     let begins : Begins a.t a.o a.i a.closed a.k =
-        elim c.if-i-eq0.branch [
-          then-i-eq0+else-not-is_move w ↦ begins_move _ _ _ _ _ w.if-i-eq0.true (sym w.is_move.ensures ∙ w.if-not-is_move.false)
-          | else-i-eq0 w ↦ begins_later _ _ _ _ _ w.if-i-eq0.false
-        ]
+    elim c.if-i-eq0.branch [
+      | then-i-eq0+else-not-is_move w ↦ begins_move _ _ _ _ _ w.if-i-eq0.true (sym w.is_move.ensures ∙ w.if-not-is_move.false)
+      | else-i-eq0 w ↦ begins_later _ _ _ _ _ w.if-i-eq0.false
+    ]
     in
     draws_on _ _ _ _ _ begins c.if-closed.true (sym c.draws.ensures ∙ c.if-draws.true)
 
@@ -23,16 +23,16 @@ pub returns : goal.returns
 returns c =
     let a = c.args in
     let begins : Begins a.t a.o a.i a.closed a.k =
-        elim c.if-i-eq0.branch [
-          then-i-eq0+else-not-is_move w ↦ begins_move _ _ _ _ _ w.if-i-eq0.true (sym w.is_move.ensures ∙ w.if-not-is_move.false)
-          | else-i-eq0 w ↦ begins_later _ _ _ _ _ w.if-i-eq0.false
-        ]
+    elim c.if-i-eq0.branch [
+      | then-i-eq0+else-not-is_move w ↦ begins_move _ _ _ _ _ w.if-i-eq0.true (sym w.is_move.ensures ∙ w.if-not-is_move.false)
+      | else-i-eq0 w ↦ begins_later _ _ _ _ _ w.if-i-eq0.false
+    ]
     in
     -- behind 18
     let apart : Follows a.t a.o a.i a.closed a.k =
-        elim c.else-closed.branch [
-          else-closed-via-then-closed+else-draws w ↦ follows_close _ _ _ _ _ begins w.if-closed.true (sym w.draws.ensures ∙ w.if-draws.false)
-          | else-closed-via-else-closed w ↦ follows_open _ _ _ _ _ begins w.if-closed.false
-        ]
+    elim c.else-closed.branch [
+      | else-closed-via-then-closed+else-draws w ↦ follows_close _ _ _ _ _ begins w.if-closed.true (sym w.draws.ensures ∙ w.if-draws.false)
+      | else-closed-via-else-closed w ↦ follows_open _ _ _ _ _ begins w.if-closed.false
+    ]
     in
     c.rule_points.ensures ∙ follows _ _ _ _ _ apart

@@ -1,7 +1,6 @@
 -- Each arm is a case of the point rule.
 use mathlib.Core.Path.{sym, ◌∙◌}
 use Rattle.path.proofs.Points.{point_passes, point_strays}
-use borrow.Author.Rules.{rules}
 use Rattle.path.proofs.rule_point.Goals as goal
 
 pub returns-in-At : goal.returns-in-At

@@ -2,7 +2,6 @@
 use mathlib.Core.List.{[], ◌∷◌}
 use lib.Dec.{lit≤}
 use Rattle.path.proofs.Points.{no_points, both_points, few_points}
-use borrow.Author.Rules.{rules}
 use Rattle.path.proofs.rule_points.Goals as goal
 
 pub both-requires : goal.both-requires

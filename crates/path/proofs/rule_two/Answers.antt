@@ -1,9 +1,7 @@
 -- One point behind the other.
-use mathlib.Core.Path.{◌∙◌}
 use mathlib.Core.List.{[], ◌∷◌}
 use lib.Dec.{lit≤}
 use Rattle.path.proofs.Points.{both_points, few_points}
-use borrow.Author.Rules.{rules}
 use Rattle.path.proofs.rule_two.Goals as goal
 
 pub both-requires : goal.both-requires

@@ -1,6 +1,5 @@
 -- The transform, the offset and the point rule, one after the other.
 use Rattle.path.specs.Reading.{spot_at}
-use borrow.Author.Rules.{rules}
 use Rattle.path.proofs.spot_at.Goals as goal
 
 pub returns : goal.returns

@@ -1,6 +1,5 @@
 -- Each arm is a case of `stroke_of`, and `fixed_at` promises the reach.
 use Rattle.path.specs.Strokes.{stroke_of}
-use borrow.Author.Rules.{rules}
 use Rattle.path.proofs.stroke_of.Goals as goal
 
 pub returns-in-MoveTo : goal.returns-in-MoveTo
@@ -18,11 +17,10 @@ returns-in-QuadTo c =
 
 pub returns-in-CurveTo : goal.returns-in-CurveTo
 unfolding stroke_of
-returns-in-CurveTo c =
-    (
-      rw (c.in-CurveTo.is, c.fixed_at-in-CurveTo.ensures.0, c.fixed_at-in-CurveTo-2.ensures.0, c.fixed_at-in-CurveTo-3.ensures.0),
-      (c.fixed_at-in-CurveTo.ensures.1, c.fixed_at-in-CurveTo-2.ensures.1, c.fixed_at-in-CurveTo-3.ensures.1),
-    )
+returns-in-CurveTo c = (
+  rw (c.in-CurveTo.is, c.fixed_at-in-CurveTo.ensures.0, c.fixed_at-in-CurveTo-2.ensures.0, c.fixed_at-in-CurveTo-3.ensures.0),
+  (c.fixed_at-in-CurveTo.ensures.1, c.fixed_at-in-CurveTo-2.ensures.1, c.fixed_at-in-CurveTo-3.ensures.1),
+)
 
 pub returns-in-Close : goal.returns-in-Close
 unfolding stroke_of

@@ -1,12 +1,8 @@
 use Prim.Native.Nat.{◌-◌}
 use mathlib.Core.Path.{refl, sym, ◌∙◌}
-use native.Mathlib.Omega.{arith}
-use lib.ListN.{length}
-use borrow.Author.Rules.{rules}
-use Rattle.list.proofs.Next.{further, next_in_is}
-use Rattle.pen.specs.Drawing.{Ready}
+use Rattle.list.proofs.Next.{further}
 use Rattle.pen.proofs.Adding.{still_ready}
-use Rattle.path.proofs.Tracking.{Tracking, started, goes_on, stops, traced, untraced}
+use Rattle.path.proofs.Tracking.{started, goes_on, stops, traced, untraced}
 use Rattle.path.proofs.trace_list.Goals as goal
 
 pub loop-ws-init : goal.loop-ws-init

@@ -1,13 +1,8 @@
 -- The loop keeps the marks that are done and those that are left (`Tracking`); each record is four bytes or more, so it ends.
 use Prim.Native.Nat.{◌-◌}
-use mathlib.Core.Path.{refl, sym, ◌∙◌}
-use native.Mathlib.Omega.{arith}
 use lib.ListN.{length}
-use borrow.Author.Rules.{rules}
-use Rattle.list.proofs.Next.{further, next_in_is}
 use Rattle.pen.specs.Drawing.{Ready}
-use Rattle.pen.proofs.Adding.{still_ready}
-use Rattle.path.proofs.Tracking.{Tracking, started, goes_on, stops, traced, untraced}
+use Rattle.path.proofs.Tracking.{Tracking}
 use Rattle.path.proofs.trace_list.Given as goal
 
 abbrev pub invariant-loop-ws : goal.invariant-loop-ws

@@ -1,5 +1,4 @@
 -- A pen in no cell has no last cell; the pair of any other is handed to `set`.
-use Rattle.std.proofs.Common.{rules}
 use Rattle.pen.proofs.Adding.{none_added}
 use Rattle.pen.proofs.Standing.{up_last, down_last}
 use Rattle.pen.proofs.finish.Goals as goal

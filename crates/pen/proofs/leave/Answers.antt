@@ -1,5 +1,4 @@
 -- A pen in no cell leaves nothing, and so does one whose pair is zero; any other pair is handed to `set`.
-use Rattle.std.proofs.Common.{⊎_elim, rules}
 use Rattle.pen.proofs.Adding.{none_added}
 use Rattle.pen.proofs.Standing.{up_leaves, zero_leaves, cover_leaves, area_leaves}
 use Rattle.pen.proofs.leave.Goals as goal

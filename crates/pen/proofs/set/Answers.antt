@@ -1,6 +1,5 @@
 -- A cell that is outside is not seen, a full pool stays full, and `store` promises the rest.
-use Rattle.std.proofs.Common.{arith, rules}
-use Rattle.pen.proofs.Adding.{right_added, high_added, low_added, store_added, full_added, renamed, unchanged, room}
+use Rattle.pen.proofs.Adding.{right_added, high_added, low_added, store_added, full_added, renamed, unchanged}
 use Rattle.pen.proofs.set.Goals as goal
 
 pub returns-then-f-col : goal.returns-then-f-col
@@ -26,6 +25,9 @@ returns-in-Full c =
 
 pub returns-else-f-row : goal.returns-else-f-row
 returns-else-f-row c =
-    record { within = c.store.ensures.within; added = renamed _ _ c.in-Cells.is
+    record {
+      within = c.store.ensures.within;
+      added = renamed _ _ c.in-Cells.is
           (store_added c.args.f c.args.cap _ _ _ _ c.args.ws.now c.store.new.ws _ _ _ c.column_of.ensures c.requires.ready.right c.if-f-col.false c.if-row-f.false c.if-f-row.false
-          c.store.ensures) }
+          c.store.ensures);
+    }

@@ -1,5 +1,5 @@
 -- What `leave` stores is what entering a cell leaves behind.
-use Rattle.std.proofs.Common.{refl, rules}
+use Rattle.std.proofs.Common.{refl}
 use Rattle.pen.specs.Marks.{after}
 use Rattle.pen.proofs.Standing.{left_enter}
 use Rattle.pen.proofs.set_cell.Goals as goal

@@ -1,7 +1,6 @@
 -- What was judged with offset zero, and the box of an accepted list.
 use mathlib.Core.Path.{sym, ◌∙◌}
 use Rattle.placing.proofs.Answers.{boxed_at, boxed_away}
-use borrow.Author.Rules.{rules}
 use Rattle.placing.proofs.bounds.Goals as goal
 
 pub returns-in-Records : goal.returns-in-Records

@@ -1,9 +1,7 @@
 use Prim.Native.Nat.{◌-◌}
 use mathlib.Core.Path.{sym, ◌∙◌}
-use lib.ListN.{length}
-use borrow.Author.Rules.{rules}
 use Rattle.list.proofs.Next.{further}
-use Rattle.placing.proofs.Growing.{Growing, started, goes_on, ended, turned}
+use Rattle.placing.proofs.Growing.{started, goes_on, ended, turned}
 use Rattle.placing.proofs.box_list.Goals as goal
 
 pub loop-b-init : goal.loop-b-init

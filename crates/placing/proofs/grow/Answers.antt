@@ -1,6 +1,5 @@
 -- Each arm adds the points of its command, transformed, one after the other.
 use Rattle.geometry.specs.Box.{box_from}
-use borrow.Author.Rules.{rules}
 use Rattle.placing.proofs.grow.Goals as goal
 
 pub returns-in-MoveTo : goal.returns-in-MoveTo

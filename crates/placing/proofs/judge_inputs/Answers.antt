@@ -1,7 +1,6 @@
 -- 6 and 7 first; a list that passed 7 is short enough to judge.
 use mathlib.Core.Path.{sym, ◌∙◌}
 use Rattle.placing.proofs.Answers.{short, checked_fine, checked_faulty}
-use borrow.Author.Rules.{rules}
 use Rattle.placing.proofs.judge_inputs.Goals as goal
 
 pub judge-requires : goal.judge-requires

@@ -1,7 +1,6 @@
 -- The box lies near, so geometry's placement is not outside, and its parts are those of the rule.
 use mathlib.Core.Path.{sym, ◌∙◌}
-use Rattle.placing.proofs.Answers.{lays, never_outside}
-use borrow.Author.Rules.{rules}
+use Rattle.placing.proofs.Answers.{lays}
 use Rattle.placing.proofs.lay.Goals as goal
 
 pub returns-in-At : goal.returns-in-At

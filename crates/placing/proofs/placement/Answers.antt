@@ -1,9 +1,6 @@
 -- What was judged, the offset of an empty list, and the box of an accepted list, which lies near.
 use mathlib.Core.Path.{sym, ◌∙◌}
-use mathlib.Core.Logic.{⊎_elim}
-use borrow.Author.Tests.{not-true, not-false}
 use Rattle.placing.proofs.Answers.{offset_refused, some_records, offset_passed, box_lies, laid_at, laid_away}
-use borrow.Author.Rules.{rules}
 use Rattle.placing.proofs.placement.Goals as goal
 use Rattle.placing.proofs.placement.Goals.{then-count-eq0+else-not-offset_passes, else-count-eq0}
 

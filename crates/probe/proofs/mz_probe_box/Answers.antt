@@ -1,11 +1,8 @@
-use Prim.Native.Nat.{◌-◌, ◌≤◌}
+use Prim.Native.Nat.{◌-◌}
 use mathlib.Core.Path.{sym, ap, ◌∙◌}
-use lib.ListN.{length}
-use borrow.Author.Rules.{rules}
-use lib.Ieee.{nan}
 use Rattle.paper.proofs.Placing.{box_of_is}
 use Rattle.probe.specs.Probes.{box_in_c}
-use Rattle.probe.proofs.Pairs.{Going, none, started, goes_on, done}
+use Rattle.probe.proofs.Pairs.{none, started, goes_on, done}
 use Rattle.probe.proofs.mz_probe_box.Goals as goal
 
 pub returns-then-points-lt2 : goal.returns-then-points-lt2

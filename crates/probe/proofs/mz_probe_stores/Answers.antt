@@ -1,5 +1,4 @@
 -- The heads are cleared, so that the pool has no cells; then the pairs are stored, and a pool that is full is wiped.
-use borrow.Author.Rules.{rules}
 use Rattle.probe.proofs.Runs.{too_many_rows, too_few_words, all_stored, too_many_places}
 use Rattle.probe.proofs.mz_probe_stores.Goals as goal
 

@@ -1,7 +1,5 @@
 -- A pair outside stores nothing, and `store` promises the rest.
-use native.Mathlib.Omega.{arith}
-use borrow.Author.Rules.{rules}
-use Rattle.probe.proofs.Stores.{below, beside, inside}
+use Rattle.probe.proofs.Stores.{inside}
 use Rattle.probe.proofs.store_pair.Goals as goal
 
 pub returns : goal.returns

@@ -1,8 +1,5 @@
 use Prim.Native.Nat.{◌-◌}
-use mathlib.Core.Path.{◌∙◌}
-use lib.ListN.{length}
-use borrow.Author.Rules.{rules}
-use Rattle.probe.proofs.Stores.{Going, started, room, goes_on, full, stored}
+use Rattle.probe.proofs.Stores.{goes_on, full, stored}
 use Rattle.probe.proofs.store_pairs.Goals as goal
 
 pub loop-at-preserved : goal.loop-at-preserved

@@ -1,9 +1,7 @@
 -- The loop keeps what is stored and the pairs that are left (`Going`).
 use Prim.Native.Nat.{◌-◌}
-use mathlib.Core.Path.{◌∙◌}
 use lib.ListN.{length}
-use borrow.Author.Rules.{rules}
-use Rattle.probe.proofs.Stores.{Going, started, room, goes_on, full, stored}
+use Rattle.probe.proofs.Stores.{Going}
 use Rattle.probe.proofs.store_pairs.Given as goal
 
 abbrev pub invariant-loop-at : goal.invariant-loop-at

@@ -1,6 +1,5 @@
 -- The four stores are those of the rule, with the five points that the split hands back.
 use Rattle.quad.specs.Stack.{halved}
-use borrow.Author.Rules.{rules}
 use Rattle.quad.proofs.halve.Goals as goal
 
 pub returns : goal.returns

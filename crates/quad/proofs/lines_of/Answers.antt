@@ -1,5 +1,5 @@
 use native.Mathlib.Omega.{arith}
-use Rattle.quad.proofs.Doubling.{Doubled, begun, doubled, done, few}
+use Rattle.quad.proofs.Doubling.{begun, doubled, done, few}
 use Rattle.quad.proofs.lines_of.Goals as goal
 
 pub loop-d-init : goal.loop-d-init

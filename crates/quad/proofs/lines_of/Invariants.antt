@@ -1,6 +1,5 @@
 -- The lines so far, doubled as often as the number that is left wants, are all the lines.
-use native.Mathlib.Omega.{arith}
-use Rattle.quad.proofs.Doubling.{Doubled, begun, doubled, done, few}
+use Rattle.quad.proofs.Doubling.{Doubled}
 use Rattle.quad.proofs.lines_of.Given as goal
 
 abbrev pub invariant-loop-d : goal.invariant-loop-d

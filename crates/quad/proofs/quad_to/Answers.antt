@@ -1,15 +1,13 @@
-use Prim.Native.Nat.{ℕ, ◌+◌, ◌*◌, ◌^◌}
+use Prim.Native.Nat.{ℕ, ◌+◌, ◌^◌}
 use mathlib.Core.Path.{sym, ap, ◌∙◌}
-use mathlib.Core.Logic.{⊎_elim}
 use native.Mathlib.Omega.{arith}
-use borrow.Author.Rules.{rules}
-use Rattle.pen.proofs.Adding.{drew_none, still_ready}
+use Rattle.pen.proofs.Adding.{drew_none}
 use mathlib.Core.Path.{◌≡◌}
 use mathlib.Core.List.{[]}
 use Rattle.quad.specs.Quads.{doublings, quad_marks}
 use Rattle.quad.proofs.Skipping.{past_marks, ahead_marks, drawn_marks}
-use Rattle.quad.proofs.Stack.{never_full, few_left, some_left, room, rest_less, popped}
-use Rattle.quad.proofs.Drawing.{all_marks, Going, going, halving, finished, onward}
+use Rattle.quad.proofs.Stack.{never_full, few_left, some_left, room, popped}
+use Rattle.quad.proofs.Drawing.{going, halving, finished, onward}
 use Rattle.quad.proofs.quad_to.Goals as goal
 use Rattle.quad.proofs.quad_to.Goals.{then-all_past-via-then-all_past, then-all_past-via-else-all_past+then-all_ahead}
 
@@ -18,10 +16,10 @@ returns-then-all_past c =
     let p = c.args in
     let e = c.all_past.ensures in
     let none : quad_marks p.f p.a p.c p.b ≡ [] =
-        elim c.then-all_past.branch [
-          then-all_past-via-then-all_past w ↦ past_marks p.f p.a p.c p.b (sym e ∙ w.if-all_past.true)
-          | then-all_past-via-else-all_past+then-all_ahead w ↦ ahead_marks p.f p.a p.c p.b (sym e ∙ w.if-all_past.false) (sym w.all_ahead.ensures ∙ w.if-all_ahead.true)
-        ]
+    elim c.then-all_past.branch [
+      | then-all_past-via-then-all_past w ↦ past_marks p.f p.a p.c p.b (sym e ∙ w.if-all_past.true)
+      | then-all_past-via-else-all_past+then-all_ahead w ↦ ahead_marks p.f p.a p.c p.b (sym e ∙ w.if-all_past.false) (sym w.all_ahead.ensures ∙ w.if-all_ahead.true)
+    ]
     in
     rw none (drew_none p.f p.cap c.requires.within)
 

@@ -1,14 +1,6 @@
 -- While the loop runs, the marks made and the marks of the lines to the points left on the stack are all the marks. The number of lines left falls, or `rest` is halved.
-use Prim.Native.Nat.{ℕ, ◌+◌, ◌*◌, ◌^◌}
-use mathlib.Core.Path.{sym, ap, ◌∙◌}
-use mathlib.Core.Logic.{⊎_elim}
-use native.Mathlib.Omega.{arith}
-use borrow.Author.Rules.{rules}
-use Rattle.pen.proofs.Adding.{drew_none, still_ready}
-use Rattle.quad.specs.Quads.{doublings}
-use Rattle.quad.proofs.Skipping.{past_marks, ahead_marks, drawn_marks}
-use Rattle.quad.proofs.Stack.{never_full, few_left, some_left, room, rest_less, popped}
-use Rattle.quad.proofs.Drawing.{all_marks, Going, going, halving, finished, onward}
+use Prim.Native.Nat.{◌+◌, ◌*◌}
+use Rattle.quad.proofs.Drawing.{all_marks, Going}
 use Rattle.quad.proofs.quad_to.Given as goal
 
 abbrev pub invariant-loop-rest : goal.invariant-loop-rest

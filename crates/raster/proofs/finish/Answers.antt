@@ -1,6 +1,5 @@
 -- The subpath is closed, and then the last cell is stored.
 use Rattle.pen.proofs.Adding.{added_then}
-use borrow.Author.Rules.{rules}
 use Rattle.raster.proofs.finish.Goals as goal
 
 pub returns : goal.returns

@@ -1,6 +1,5 @@
 -- The subpath is closed, and then the cell is entered.
 use Rattle.pen.proofs.Adding.{drew_then}
-use borrow.Author.Rules.{rules}
 use Rattle.raster.proofs.move_to.Goals as goal
 
 pub returns : goal.returns

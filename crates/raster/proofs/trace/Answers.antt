@@ -1,7 +1,6 @@
 -- Each arm calls what draws its stroke; the marks are that case's of `stroke_marks`.
 use Rattle.raster.specs.declared.Stroke.TheVariants.{Move, Line, Quad, Cubic, Close}
-use Rattle.raster.proofs.Told.{told_reach, told_stroked, moves, lines, bends, curves, closes}
-use borrow.Author.Rules.{rules}
+use Rattle.raster.proofs.Told.{told_stroked, moves, lines, bends, curves, closes}
 use Rattle.raster.proofs.trace.Goals as goal
 
 pub returns-in-Move : goal.returns-in-Move

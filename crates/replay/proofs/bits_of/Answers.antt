@@ -1,10 +1,9 @@
 -- What differs from itself is a NaN, and what equals itself is none.
-use Rattle.std.proofs.Common.{◌≡◌, ◌∙◌, sym, ap, refl, Bool, true, false, not, T, cond}
-use lib.Ieee.{binary32, is_nan, to_bits}
+use Rattle.std.proofs.Common.{◌≡◌, refl, Bool, true, false, not, T}
+use lib.Ieee.{is_nan}
 use lib.Ieee.Compare.{differs_from_itself}
 use denote.Floats.{passes}
 use Rattle.float.proofs.Fields.{no_nan}
-use Rattle.replay.specs.Answers.{bits_of}
 use Rattle.replay.proofs.bits_of.Goals as goal
 
 not_true : (b : Bool) → T (not b) → b ≡ false

@@ -1,5 +1,5 @@
 use Rattle.std.proofs.Common.{◌≡◌, ℕ, ◌+◌, ◌<◌, ◌^◌, refl, arith}
-use Rattle.replay.specs.Answers.{nth_placement, after_placement, PlacementAgrees}
+use Rattle.replay.specs.Answers.{nth_placement, PlacementAgrees}
 use Rattle.replay.proofs.Cases.{one_more, one_counted, one_at_most, nth_placement-next}
 use Rattle.replay.proofs.placements.Goals as goal
 

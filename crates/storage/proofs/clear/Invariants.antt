@@ -1,6 +1,5 @@
 -- `storage::clear` meets its contract: after i turns the first i words are zero.
-use Rattle.std.proofs.Common.{◌≡◌, ℕ, ◌-◌, ◌≤◌, List, ◌++◌, length, drop, set, replicate, refl, ap, ◌∙◌, le_antisymm, arith, length-set}
-use borrow.Author.Fill.{fill_more}
+use Rattle.std.proofs.Common.{◌≡◌, ◌-◌, ◌≤◌, ◌++◌, length, drop, replicate}
 use Rattle.storage.proofs.clear.Given as goal
 
 abbrev pub invariant-loop-i : goal.invariant-loop-i

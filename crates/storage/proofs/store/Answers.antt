@@ -1,9 +1,9 @@
 -- `storage::store` meets its contract, by where the walk ended: at the cell of the place, or at the one that the place goes behind.
-use Rattle.std.proofs.Common.{◌≡◌, ◌+◌, ◌<◌, Bool, true, sym, refl, ◌∙◌, arith, rules}
+use Rattle.std.proofs.Common.{◌≡◌, ◌+◌, Bool, sym, refl, ◌∙◌, arith}
 use Rattle.storage.specs.Deposits.{place_of}
 use Rattle.storage.specs.Answers.{is_at}
 use Rattle.storage.proofs.Words.{link_fits}
-use Rattle.storage.proofs.Stores.{is_at_true, at_cell, at_full, at_gap}
+use Rattle.storage.proofs.Stores.{at_cell, at_full, at_gap}
 use Rattle.storage.proofs.store.Goals as goal
 
 pub returns-then-is_at : goal.returns-then-is_at

@@ -1,8 +1,4 @@
 -- `storage::walk_back` meets its contract, since each place that it meets is tested. The walk ends since the places fall.
-use Rattle.std.proofs.Common.{arith}
-use Rattle.storage.specs.Cells.{place_at}
-use Rattle.storage.specs.Answers.{Upto}
-use Rattle.storage.proofs.Walk.{upto_start, upto_cell}
 use Rattle.storage.proofs.walk_back.Given as goal
 
 abbrev pub invariant-loop-link : goal.invariant-loop-link

@@ -1,7 +1,4 @@
-use Rattle.std.proofs.Common.{ℕ, ◌+◌, ◌-◌, ◌<◌, length, get_or, ap, ◌∙◌, arith}
-use Rattle.storage.specs.Cells.{place_at, next_in}
-use Rattle.storage.proofs.Words.{link_word_lt}
-use Rattle.storage.proofs.Walk.{Walk, named_le, begin, far, done, past, back, go_on}
+use Rattle.storage.proofs.Walk.{far, done, past, back, go_on}
 use Rattle.storage.proofs.walk_on.Goals as goal
 
 pub returns-then-count-next : goal.returns-then-count-next

@@ -1,8 +1,6 @@
 -- `storage::walk_on` meets its contract, by the laws of the walk. The walk ends since the place it has come to rises, up to the one that is sought.
-use Rattle.std.proofs.Common.{ℕ, ◌+◌, ◌-◌, ◌<◌, length, get_or, ap, ◌∙◌, arith}
-use Rattle.storage.specs.Cells.{place_at, next_in}
-use Rattle.storage.proofs.Words.{link_word_lt}
-use Rattle.storage.proofs.Walk.{Walk, named_le, begin, far, done, past, back, go_on}
+use Rattle.std.proofs.Common.{◌+◌, ◌-◌}
+use Rattle.storage.proofs.Walk.{Walk}
 use Rattle.storage.proofs.walk_on.Given as goal
 
 abbrev pub invariant-loop-next : goal.invariant-loop-next

@@ -1,6 +1,6 @@
 -- `sweep::paint` meets its contract: after each turn the columns up to i are painted.
-use Rattle.std.proofs.Common.{◌-◌, ⊎_elim, arith}
-use Rattle.sweep.proofs.Runs.{Painting, painting_none, painting_more, painted}
+use Rattle.std.proofs.Common.{◌-◌}
+use Rattle.sweep.proofs.Runs.{Painting}
 use Rattle.sweep.proofs.paint.Given as goal
 
 abbrev pub invariant-loop-i : goal.invariant-loop-i

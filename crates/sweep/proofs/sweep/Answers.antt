@@ -1,5 +1,5 @@
-use Rattle.std.proofs.Common.{◌≡◌, ◌+◌, ◌-◌, ◌*◌, ◌≤◌, length, ⊎_elim, arith}
-use Rattle.sweep.proofs.Lines.{Lines, lines_none, lines_more, line_fits, lines_all, row_up, row_down, row_lt}
+use Rattle.std.proofs.Common.{◌≡◌, ◌+◌, ◌-◌, ◌*◌, ◌≤◌, length, arith}
+use Rattle.sweep.proofs.Lines.{lines_more, line_fits, lines_all, row_up, row_down}
 use Rattle.sweep.specs.Masks.{row_at}
 use Rattle.sweep.proofs.sweep.Goals as goal
 use Rattle.sweep.proofs.sweep.Goals.{then-up, else-up}

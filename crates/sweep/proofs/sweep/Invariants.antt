@@ -1,7 +1,6 @@
 -- `sweep::sweep` meets its contract, line by line.
-use Rattle.std.proofs.Common.{◌≡◌, ◌+◌, ◌-◌, ◌*◌, ◌≤◌, length, ⊎_elim, arith}
-use Rattle.sweep.proofs.Lines.{Lines, lines_none, lines_more, line_fits, lines_all, row_up, row_down, row_lt}
-use Rattle.sweep.specs.Masks.{row_at}
+use Rattle.std.proofs.Common.{◌-◌}
+use Rattle.sweep.proofs.Lines.{Lines}
 use Rattle.sweep.proofs.sweep.Given as goal
 
 abbrev pub invariant-loop-l : goal.invariant-loop-l

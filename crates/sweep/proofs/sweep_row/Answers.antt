@@ -1,5 +1,5 @@
-use Rattle.std.proofs.Common.{◌+◌, ◌-◌, ◌∙◌, arith}
-use Rattle.sweep.proofs.Sweeps.{Sweep, begin, far, back, outside, more, finish}
+use Rattle.std.proofs.Common.{◌∙◌, arith}
+use Rattle.sweep.proofs.Sweeps.{begin, more, finish}
 use Rattle.sweep.proofs.sweep_row.Goals as goal
 
 pub loop-next-init : goal.loop-next-init

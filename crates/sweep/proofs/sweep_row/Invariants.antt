@@ -1,6 +1,6 @@
 -- `sweep::sweep_row` meets its contract, by the laws of the sweep. The walk ends since the column that it has come to rises, up to the width.
-use Rattle.std.proofs.Common.{◌+◌, ◌-◌, ◌∙◌, arith}
-use Rattle.sweep.proofs.Sweeps.{Sweep, begin, far, back, outside, more, finish}
+use Rattle.std.proofs.Common.{◌+◌, ◌-◌}
+use Rattle.sweep.proofs.Sweeps.{Sweep}
 use Rattle.sweep.proofs.sweep_row.Given as goal
 
 abbrev pub invariant-loop-next : goal.invariant-loop-next

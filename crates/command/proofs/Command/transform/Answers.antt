@@ -1,6 +1,5 @@
 -- `command::Command::transform` meets its contract: in each arm `transform_point` gives the points that `moved_all` names for that command.
 -- Assumes nothing.
-use borrow.Author.Rules.{rules}
 use Rattle.command.specs.Commands.{moved_all}
 use Rattle.command.proofs.Command.transform.Goals as goal
 

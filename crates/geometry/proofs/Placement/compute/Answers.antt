@@ -12,7 +12,6 @@ use Rattle.geometry.specs.declared.Point.{Point}
 use Rattle.geometry.specs.declared.Origin.{Origin}
 use Rattle.geometry.specs.Placing.{placed_between}
 use Rattle.geometry.proofs.Sides.{Spans, spans, beyond, raised_low, placed_at, x_outside, y_outside}
-use borrow.Author.Rules.{rules}
 use Rattle.geometry.proofs.Placement.compute.Goals as goal
 
 shifting : (o : Origin) (a b p q : Point) → a ≡ p → b ≡ q → placed_between o a b ≡ placed_between o p q
