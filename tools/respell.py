@@ -48,6 +48,10 @@ def ours():
                 it = FIELD.match(line) if record else NESTED.match(line) if "/proofs/" in path else None
             if it:
                 names.add(it.group(1))
+    for path in glob.glob("crates/*/proofs/**/*.antt", recursive=True):
+        for line in open(path, encoding="utf-8"):
+            if line.startswith("use ") and not line.startswith("use Rattle.") or line.startswith("use Rattle.std."):
+                names -= set(TOKEN.findall(line))
     return {n for n in names if n[:1].islower() and (CAMEL.match(n) or HYPHEN.search(n)) or n[:1] in "⊖+" and HYPHEN.search(n)}
 
 

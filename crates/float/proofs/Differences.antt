@@ -6,7 +6,7 @@ use mathlib.Core.Logic.{◌⊎◌, inl, inr, ⊎_elim}
 use native.Mathlib.Omega.{arith}
 use native.Mathlib.Nat.{mul-sub, mul-le-mul_left}
 use lib.Dec.{T, leb, ltb, ltb→lt, nltb→le}
-use lib.IntN.{pos, negsuc, ◌+ℤ◌, ◌*ℤ◌, neg_ℤ, nat_abs, +ℤ_assoc, +ℤ_comm, +ℤ_idr, neg_ℤ-+ℤ, neg_ℤ_neg_ℤ, pos-+ℤ-pos, *ℤ-negsuc}
+use lib.IntN.{pos, negsuc, ◌+ℤ◌, ◌*ℤ◌, neg_ℤ, nat_abs, +ℤ_assoc, +ℤ_comm, +ℤ_idr, neg_ℤ-+ℤ, neg_ℤ-neg_ℤ, pos-+ℤ-pos, *ℤ-negsuc}
 use lib.Signed.{le_z, lt_z}
 use borrow.Author.Tests.{lt-ltb, le-ltb, le-leb, lt-leb}
 use Rattle.float.specs.Differences.{◌⊖◌}
@@ -54,7 +54,7 @@ pub ⊖_add : (a b c d : ℕ) → a ⊖ b +ℤ (c ⊖ d) ≡ (a + c) ⊖ (b + d)
     )
 
 pub ⊖_neg : (a b : ℕ) → neg_ℤ (a ⊖ b) ≡ b ⊖ a
-⊖_neg a b = rw (⊖_is a b, ⊖_is b a, neg_ℤ-+ℤ (pos a) (neg_ℤ (pos b)), neg_ℤ_neg_ℤ (pos b), +ℤ_comm (neg_ℤ (pos a)) (pos b))
+⊖_neg a b = rw (⊖_is a b, ⊖_is b a, neg_ℤ-+ℤ (pos a) (neg_ℤ (pos b)), neg_ℤ-neg_ℤ (pos b), +ℤ_comm (neg_ℤ (pos a)) (pos b))
 
 -- the same difference
 pub ⊖_same : (a b c d : ℕ) → a + d ≡ c + b → a ⊖ b ≡ c ⊖ d

@@ -5,7 +5,7 @@ use native.Mathlib.Nat.{add-zero, zero-div, zero-mod}
 use native.Mathlib.Omega.{arith}
 use mathlib.Core.Bool.{Bool, true, false, not, cond}
 use lib.Dec.{ltb, eqb}
-use lib.IntN.{ℤ, pos, neg_ℤ, neg_ℤ_neg_ℤ}
+use lib.IntN.{ℤ, pos, neg_ℤ, neg_ℤ-neg_ℤ}
 use lib.Ieee.{Float, nan, inf, fin, up, down, lt, neg}
 use lib.Ieee.Fits.{down_pos}
 use borrow.Author.Tests.{ltb-true, ltb-false, eqb-true, eqb-false, eq-eqb}
@@ -81,7 +81,7 @@ around_cut (fin s m e) b n r p = go s (cuts s m e b n r p)
     go false k =
         let z : b ≡ false = sym k.below ∙ below_zero false m e in (
           ap pos k.size ∙ sym (ap (λ (u : Bool). cond u (neg_ℤ (pos (n + cond r 1 0))) (pos n)) z),
-          neg_ℤ_neg_ℤ (pos ((m * up e + (down e - 1)) / down e)) ∙ ap pos (more false k) ∙ sym (ap (λ (u : Bool). cond u (neg_ℤ (pos n)) (pos (n + cond r 1 0))) z),
+          neg_ℤ-neg_ℤ (pos ((m * up e + (down e - 1)) / down e)) ∙ ap pos (more false k) ∙ sym (ap (λ (u : Bool). cond u (neg_ℤ (pos n)) (pos (n + cond r 1 0))) z),
         )
     go true k =
         let w = signed (m * up e) (down e) b n (n + cond r 1 0) (down_pos e) (sym (below_zero true m e) ∙ k.below) k.size (next true k) in

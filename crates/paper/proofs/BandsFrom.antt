@@ -19,9 +19,9 @@ either : (a b : Bool) → (a || b) ≡ true → (a ≡ true) ⊎ (b ≡ true)
 either true b e = inl refl
 either false b e = inr e
 
-or_true : (a : Bool) → (a || true) ≡ true
-or_true true = refl
-or_true false = refl
+or-true : (a : Bool) → (a || true) ≡ true
+or-true true = refl
+or-true false = refl
 
 module _ (step : ℕ) (l : Label) (words : ℕ) (cs : List Command) where
   -- the k-th band from a row on
@@ -116,7 +116,7 @@ module _ (step : ℕ) (l : Label) (words : ℕ) (cs : List Command) where
         let left = calls_left l.end from n f less in
         let own = subst (λ (b : Label). TooMany b words cs) (own_behind from k inner) m in
         let behind = full_one n (min l.end (from + step)) left k inner own in
-        two n from less ∙ ap (λ (b : Bool). here from || b) behind ∙ or_true (here from)
+        two n from less ∙ ap (λ (b : Bool). here from || b) behind ∙ or-true (here from)
 
   -- ---- the record: record i runs out in the k-th band, and none before that is full
   abbrev First : ℕ → ℕ → Type 0

@@ -2,7 +2,7 @@
 use Prim.Native.Nat.{ℕ, zero, suc, ◌+◌, ◌*◌, ◌≤◌}
 use mathlib.Core.Path.{◌≡◌, refl, sym, ap, ◌∙◌}
 use native.Mathlib.Omega.{arith}
-use lib.IntN.{ℤ, pos, negsuc, neg_ℤ, nat_abs, sub_ℕ, ◌+ℤ◌, ◌*ℤ◌, ℤ_ind, +ℤ_idr, +ℤ_one, -ℤ_one, +ℤ_assoc, +ℤ_comm, neg_ℤ_neg_ℤ, zero-*ℤ, suc_ℤ-*ℤ, pred_ℤ-*ℤ, *ℤ_comm}
+use lib.IntN.{ℤ, pos, negsuc, neg_ℤ, nat_abs, sub_ℕ, ◌+ℤ◌, ◌*ℤ◌, ℤ_ind, +ℤ_idr, +ℤ_one, -ℤ_one, +ℤ_assoc, +ℤ_comm, neg_ℤ-neg_ℤ, zero-*ℤ, suc_ℤ-*ℤ, pred_ℤ-*ℤ, *ℤ_comm}
 use Rattle.float.specs.Differences.{◌⊖◌}
 use Rattle.float.proofs.Differences.{⊖_abs}
 
@@ -16,8 +16,8 @@ less a c = ap (λ (z : ℤ). z *ℤ c) (-ℤ_one a) ∙ pred_ℤ-*ℤ a c
 pub neg_times : (a b : ℤ) → neg_ℤ a *ℤ b ≡ neg_ℤ (a *ℤ b)
 neg_times (pos zero) b = rw (zero-*ℤ b)
 neg_times (pos (suc n)) (pos k) = refl
-neg_times (pos (suc n)) (negsuc k) = sym (neg_ℤ_neg_ℤ (pos (suc n * suc k)))
-neg_times (negsuc n) (pos k) = sym (neg_ℤ_neg_ℤ (pos (suc n * k)))
+neg_times (pos (suc n)) (negsuc k) = sym (neg_ℤ-neg_ℤ (pos (suc n * suc k)))
+neg_times (negsuc n) (pos k) = sym (neg_ℤ-neg_ℤ (pos (suc n * k)))
 neg_times (negsuc n) (negsuc k) = refl
 
 spread : (a b c : ℤ) → (a +ℤ b) *ℤ c ≡ a *ℤ c +ℤ b *ℤ c

@@ -7,7 +7,7 @@ use native.Mathlib.Omega.{arith}
 use native.Mathlib.Nat.{mul-one, mul_comm, mul_assoc, mul_left_comm, mul-pos, add-mul, mul-sub, mul-le-mul_right, mul-lt-mul_of_pos_right, eq_of_mul-eq-mul_right}
 use borrow.Author.Tests.{lt-ltb, le-ltb}
 use lib.Dec.{T, ltb, lit≤}
-use lib.IntN.{ℤ, pos, negsuc, neg_ℤ, nat_abs, ◌+ℤ◌, ◌*ℤ◌, neg_ℤ-+ℤ, neg_ℤ_neg_ℤ, *ℤ_comm, +ℤ_comm, pos-ne-negsuc}
+use lib.IntN.{ℤ, pos, negsuc, neg_ℤ, nat_abs, ◌+ℤ◌, ◌*ℤ◌, neg_ℤ-+ℤ, neg_ℤ-neg_ℤ, *ℤ_comm, +ℤ_comm, pos-ne-negsuc}
 use lib.Ieee.{Float, nan, inf, fin, binary32, up, down, unlike, round, sum, add, mul, fits}
 use lib.Ieee.Fits.{down_pos}
 use lib.Ieee.Exact.{HasValue}
@@ -71,7 +71,7 @@ signed_times : (s t : Bool) (m n : ℕ) → signed (unlike s t) (m * n) ≡ sign
 signed_times false false m n = refl
 signed_times true false m n = sym (neg_times (pos m) (pos n))
 signed_times false true m n = sym (times_neg m n)
-signed_times true true m n = sym (neg_times (pos m) (neg_ℤ (pos n)) ∙ ap neg_ℤ (times_neg m n) ∙ neg_ℤ_neg_ℤ (pos (m * n)))
+signed_times true true m n = sym (neg_times (pos m) (neg_ℤ (pos n)) ∙ ap neg_ℤ (times_neg m n) ∙ neg_ℤ-neg_ℤ (pos (m * n)))
 
 -- a difference, by the sign of what is taken from
 gap : (m n : ℕ) → n ≤ m → pos (m - n) ≡ pos m +ℤ neg_ℤ (pos n)
@@ -79,7 +79,7 @@ gap m n h = sym (⊖_up m n h) ∙ ⊖_is m n
 
 signed_gap : (s : Bool) (m n : ℕ) → n ≤ m → signed s (m - n) ≡ signed s m +ℤ signed (not s) n
 signed_gap false m n h = gap m n h
-signed_gap true m n h = ap neg_ℤ (gap m n h) ∙ neg_ℤ-+ℤ (pos m) (neg_ℤ (pos n)) ∙ ap (λ (z : ℤ). neg_ℤ (pos m) +ℤ z) (neg_ℤ_neg_ℤ (pos n))
+signed_gap true m n h = ap neg_ℤ (gap m n h) ∙ neg_ℤ-+ℤ (pos m) (neg_ℤ (pos n)) ∙ ap (λ (z : ℤ). neg_ℤ (pos m) +ℤ z) (neg_ℤ-neg_ℤ (pos n))
 
 signed_rest : (s : Bool) (m n : ℕ) → m ≤ n → signed (not s) (n - m) ≡ signed s m +ℤ signed (not s) n
 signed_rest false m n h = signed_gap true n m h ∙ +ℤ_comm (neg_ℤ (pos n)) (pos m)
