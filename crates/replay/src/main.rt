@@ -1,12 +1,14 @@
 // Replays the answers that `compare fixture` stored in the file `answers`, draws and places each of its cases, and writes how many differ.
 // Number 0 and what goes with it is the Rust's answer, but for the cut coordinates, which compare's own reading of docs/RULES.md counts. The Rust
 // refuses nothing: every other number is that reading's, which for 13 counts the Rust's cells.
+// It writes 0 exactly where each case is answered as the definitions of `paper`, the rules, have it: `drawings` and `placements` promise that.
 // The file starts with MZREPLAY, then the count of drawings, the drawings, the count of placements, the placements; all numbers are little-endian.
 #![tactic(auto)]
 
-ghost use Rattle.std.specs.Prelude.{◌≡◌, ◌↔◌, ◌+◌, ◌*◌, ◌%◌, ◌^◌, ◌<◌, ◌≤◌, if◌then◌else◌, pos, ◌+ℤ◌, ℕ, length, replicate, slice_index, All, EachIndex, IfOk, IsTrue};
+ghost use Rattle.std.specs.Prelude.{◌≡◌, ◌↔◌, ◌+◌, ◌*◌, ◌%◌, ◌^◌, ◌<◌, ◌≤◌, if◌then◌else◌, pos, ◌+ℤ◌, length, replicate, slice_index, All, IfOk, IsTrue};
 ghost use Rattle.paper.specs.Drawing.{draw};
-ghost use Rattle.replay.specs.Answers.{onward, number_of, word_at, wide_at, float_at, point_at, transform_at, fill_of, origin_of, label_at, list_end, after_drawing, fnv1a, numbers_at, word_after, MaskAgrees, Agrees, DrawingAgrees, nth_drawing, EachDrawingAgrees, bits_of, SignedAgrees, PlaceAgrees, PlacementAgrees, after_placement, nth_placement, EachPlacementAgrees};
+ghost use Rattle.replay.specs.Reading.{onward, number_of, word_at, wide_at, float_at, point_at, transform_at, fill_of, origin_of, label_at, list_end, fnv1a, bits_of};
+ghost use Rattle.replay.specs.Agreeing.{SameBytes, MaskAgrees, numbers_at, word_after, Agrees, DrawingAgrees, EachDrawingAgrees, SignedAgrees, PlaceAgrees, PlacementAgrees, EachPlacementAgrees, accepted_of, after_drawing, nth_drawing, drawing_number, nth_placement, placement_number};
 
 use geometry::{Origin, Point, Transform};
 use label::{Label, Numbers};
@@ -54,7 +56,7 @@ fn word_of(a: u8, b: u8, c: u8, d: u8) -> usize
 }
 
 // The number of four bytes, the first one lowest.
-#[tactic(auto, unfolding(crate::specs::Answers::word_at))]
+#[tactic(auto, unfolding(crate::specs::Reading::word_at))]
 fn word_at(s: &[u8], at: usize) -> usize
     ensures value { result ≡ word_at s.now at }
     ensures fits { result < 2 ^ 32 }
@@ -67,7 +69,7 @@ fn word_at(s: &[u8], at: usize) -> usize
     )
 }
 
-#[tactic(auto, unfolding(crate::specs::Answers::float_at))]
+#[tactic(auto, unfolding(crate::specs::Reading::float_at))]
 fn float_at(s: &[u8], at: usize) -> f32
     ensures { result ≡ float_at s.now at }
 {
@@ -88,7 +90,7 @@ fn point_at(s: &[u8], at: usize) -> Point
     }
 }
 
-#[tactic(auto, unfolding(crate::specs::Answers::transform_at))]
+#[tactic(auto, unfolding(crate::specs::Reading::transform_at))]
 fn transform_at(s: &[u8], at: usize) -> Transform
     ensures { result ≡ transform_at s.now at }
 {
@@ -121,7 +123,7 @@ fn origin_of(b: u8) -> Origin
 }
 
 // What stands behind a drawing's list.
-#[tactic(auto, unfolding(crate::specs::Answers::label_at))]
+#[tactic(auto, unfolding(crate::specs::Reading::label_at))]
 fn label_at(s: &[u8], at: usize) -> Label
     ensures { result ≡ label_at s.now at }
 {
@@ -158,7 +160,7 @@ fn all_words(words: &[u32], v: u32) -> bool
 
 // Whether the mask's bytes stand in the file from an index on.
 fn same_bytes(s: &[u8], from: usize, mask: &[u8]) -> bool
-    ensures { IsTrue result ↔ EachIndex mask.now (λ k. slice_index mask.now k ≡ slice_index s.now (onward from k)) }
+    ensures { IsTrue result ↔ SameBytes s.now from mask.now }
 {
     for (i, b) in mask.iter().enumerate() {
         if *b != byte_at(s, add(from, i)) {
@@ -211,7 +213,7 @@ fn mask_agrees(s: &[u8], at: usize, mask: &[u8]) -> bool
     same_checksum(s, add(at, 83), checksum(mask))
 }
 
-#[tactic(auto, unfolding(crate::specs::Answers::numbers_at))]
+#[tactic(auto, unfolding(crate::specs::Agreeing::numbers_at))]
 fn numbers_agree(s: &[u8], at: usize, n: Numbers) -> bool
     ensures { IsTrue result ↔ (n ≡ numbers_at s.now at) }
 {
@@ -310,14 +312,16 @@ fn one_unless(same: bool) -> usize
 
 fn drawings(s: &[u8], from: usize, count: usize, mask: &mut [u8], words: &mut [u32]) -> Tally
     ensures end { result.at ≡ nth_drawing s.now from count }
-    ensures all { result.accepted + result.refused ≡ count }
+    ensures accepted { result.accepted ≡ accepted_of (drawing_number s.now from) count }
+    ensures refused { result.accepted + result.refused ≡ count }
+    ensures differ { result.differ ≤ count }
     ensures none_differs { (result.differ ≡ 0) ↔ EachDrawingAgrees s.now from count (length mask.old) (length words.old) }
 {
     let mut at = from;
     let mut accepted: usize = 0;
     let mut refused: usize = 0;
     let mut differ: usize = 0;
-    for i in 0..count {
+    for _case in 0..count {
         let number = word_at(s, add(list_end(s, at), 58));
         accepted = add(accepted, one_unless(number != 0));
         refused = add(refused, one_unless(number == 0));
@@ -418,14 +422,16 @@ fn replay_placement(s: &[u8], at: usize) -> bool
 
 fn placements(s: &[u8], from: usize, count: usize) -> Tally
     ensures end { result.at ≡ nth_placement s.now from count }
-    ensures all { result.accepted + result.refused ≡ count }
+    ensures accepted { result.accepted ≡ accepted_of (placement_number s.now from) count }
+    ensures refused { result.accepted + result.refused ≡ count }
+    ensures differ { result.differ ≤ count }
     ensures none_differs { (result.differ ≡ 0) ↔ EachPlacementAgrees s.now from count }
 {
     let mut at = from;
     let mut accepted: usize = 0;
     let mut refused: usize = 0;
     let mut differ: usize = 0;
-    for i in 0..count {
+    for _case in 0..count {
         let end = list_end(s, at);
         let number = word_at(s, add(end, 33));
         accepted = add(accepted, one_unless(number != 0));

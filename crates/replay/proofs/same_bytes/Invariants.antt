@@ -1,6 +1,6 @@
 -- The bytes so far are the same.
 use Rattle.std.proofs.Common.{◌≡◌, ℕ, ◌<◌, get_or}
-use Rattle.replay.specs.Answers.{onward}
+use Rattle.replay.specs.Reading.{onward}
 use Rattle.replay.proofs.same_bytes.Given as goal
 
 abbrev pub invariant-loop-i : goal.invariant-loop-i

@@ -1,87 +1,19 @@
--- How a file of answers is read: an index wraps, a byte behind the end is 0, and of a number's bytes the first is the lowest.
-use Rattle.std.specs.Prelude.{◌≡◌, ℕ, zero, suc, ◌+◌, ◌*◌, ◌%◌, ◌^◌, ◌<◌, ◌≤◌, ◌==◌, ◌||◌, true, false, List, length, replicate, slice_index, slice_range, if◌then◌else◌, bit_xor, All, EachIndex, MatchBool, Float, is_nan, to_bits, ℤ, pos, ◌+ℤ◌}
-use Rattle.std.specs.List.{fold}
-use Rattle.std.specs.Float.{binary32}
-use Rattle.float.specs.Bits.{float_of}
-use Rattle.geometry.specs.declared.Point.{Point}
-use Rattle.geometry.specs.declared.Transform.{Transform}
-use Rattle.geometry.specs.declared.Origin.{Origin}
-use Rattle.geometry.specs.declared.Origin.TheVariants.{TopLeft, BottomLeft}
-use Rattle.sweep.specs.declared.Fill.{Fill}
-use Rattle.sweep.specs.declared.Fill.TheVariants.{NonZero, EvenOdd}
-use Rattle.label.specs.declared.Label.{Label}
+-- When a stored answer is the one that the definitions of `paper` give, and how the cases of a file are counted.
+use Rattle.std.specs.Prelude.{◌≡◌, ℕ, zero, suc, ◌+◌, ◌%◌, ◌^◌, ◌<◌, ◌≤◌, ◌==◌, ◌||◌, List, length, replicate, slice_index, slice_range, if◌then◌else◌, All, EachIndex, MatchBool, ℤ, pos, ◌+ℤ◌}
 use Rattle.label.specs.declared.Numbers.{Numbers}
 use Rattle.placing.specs.declared.PlaceNumbers.{PlaceNumbers}
 use Rattle.paper.specs.Drawing.{Outcome, draw}
 use Rattle.paper.specs.Placing.{placement}
 use Rattle.replay.specs.declared.TheConstants.{OLD_BYTE, OLD_WORD}
+use Rattle.replay.specs.Reading.{onward, word_at, wide_at, point_at, transform_at, origin_of, label_at, list_end, bits_of, fnv1a}
 
--- an index and so many more, as numbers of 64 bits wrap
-abbrev pub onward : ℕ → ℕ → ℕ
-onward at n = (at + n) % 2 ^ 64
+-- of so many cases with these numbers, how many are accepted, which is 0
+unfoldable pub accepted_of : (ℕ → ℕ) → ℕ → ℕ
+accepted_of number zero = 0
+accepted_of number (suc k) = accepted_of number k + (if number k == 0 then 1 else 0)
 
--- the number of four bytes
-abbrev pub number_of : ℕ → ℕ → ℕ → ℕ → ℕ
-number_of a b c d = a + b * 0x100 + c * 0x1_0000 + d * 0x100_0000
-
--- the number of the four bytes at an index
-unfoldable pub word_at : List ℕ → ℕ → ℕ
-word_at s at =
-    number_of (slice_index s at) (slice_index s (onward at 1)) (slice_index s (onward at 2))
-    (slice_index s (onward at 3))
-
--- the number of the eight bytes at an index
-abbrev pub wide_at : List ℕ → ℕ → ℕ
-wide_at s at = word_at s at + word_at s (onward at 4) * 0x1_0000_0000
-
--- the float of the four bytes at an index
-unfoldable pub float_at : List ℕ → ℕ → Float
-float_at s at =
-    float_of (slice_index s at) (slice_index s (onward at 1)) (slice_index s (onward at 2))
-    (slice_index s (onward at 3))
-
-abbrev pub point_at : List ℕ → ℕ → Point
-point_at s at = record { x = float_at s at; y = float_at s (onward at 4) }
-
-unfoldable pub transform_at : List ℕ → ℕ → Transform
-transform_at s at = record {
-  xx = float_at s at;
-  xy = float_at s (onward at 4);
-  yx = float_at s (onward at 8);
-  yy = float_at s (onward at 12);
-  x = float_at s (onward at 16);
-  y = float_at s (onward at 20);
-}
-
-abbrev pub fill_of : ℕ → Fill
-fill_of b = if b == 1 then EvenOdd else NonZero
-
-abbrev pub origin_of : ℕ → Origin
-origin_of b = if b == 1 then BottomLeft else TopLeft
-
--- what stands behind a drawing's list
-unfoldable pub label_at : List ℕ → ℕ → Label
-label_at s at = record {
-  transform = transform_at s at;
-  offset = point_at s (onward at 24);
-  fill = fill_of (slice_index s (onward at 32));
-  up = slice_index s (onward at 33) == 1;
-  width = word_at s (onward at 34);
-  height = word_at s (onward at 38);
-  pitch = word_at s (onward at 42);
-  first = word_at s (onward at 46);
-  end = word_at s (onward at 50);
-}
-
--- where a list ends that starts with its length
-abbrev pub list_end : List ℕ → ℕ → ℕ
-list_end s at = onward (onward at 4) (word_at s at)
-
--- the 64-bit FNV-1a of some bytes
-abbrev pub fnv1a : List ℕ → ℕ
-fnv1a bytes = fold (λ h b. bit_xor h b * 0x100_0000_01b3 % 2 ^ 64) 0xcbf2_9ce4_8422_2325 bytes
-
--- the answer that stands behind a label
+-- ---- drawings
+-- the numbers that stand behind a label
 unfoldable pub numbers_at : List ℕ → ℕ → Numbers
 numbers_at s at = record {
   number = word_at s (onward at 58);
@@ -95,11 +27,11 @@ numbers_at s at = record {
 abbrev pub word_after : ℕ → ℕ
 word_after number = if (number == 0) || (number == 13) then 0 else OLD_WORD
 
--- the bytes that stand in the file from an index on
+-- these bytes stand in the file from an index on
 abbrev pub SameBytes : List ℕ → ℕ → List ℕ → Type 0
-SameBytes s from mask = EachIndex mask (λ k. slice_index mask k ≡ slice_index s (onward from k))
+SameBytes s from bytes = EachIndex bytes (λ k. slice_index bytes k ≡ slice_index s (onward from k))
 
--- a mask is the one behind an answer: byte by byte where the file has the whole, and else by its checksum
+-- a mask is the one behind the numbers: byte by byte where the file has the whole, and else by its checksum
 abbrev pub MaskAgrees : List ℕ → ℕ → List ℕ → Type 0
 MaskAgrees s at mask =
     MatchBool (slice_index s (onward at 82) == 1) (SameBytes s (onward at 83) mask)
@@ -111,7 +43,7 @@ pub record Agrees (s : List ℕ) (at : ℕ) (o : Outcome) : Type 0 where
   pub words : All (λ w. w ≡ word_after o.answer.number) o.words
   pub mask : MaskAgrees s at o.mask
 
--- the drawing at an index stands in the file, takes no more than so many bytes and words, and leaves what the file has
+-- the drawing at an index stands in the file, is lent no more than so many bytes and words, and drawn by the rules it leaves what the file has
 pub record DrawingAgrees (s : List ℕ) (at bytes words : ℕ) : Type 0 where
   pub ordered : onward at 4 ≤ list_end s at
   pub within : list_end s at ≤ length s
@@ -134,15 +66,16 @@ unfoldable pub nth_drawing : List ℕ → ℕ → ℕ → ℕ
 nth_drawing s from zero = from
 nth_drawing s from (suc k) = after_drawing s (nth_drawing s from k)
 
+-- and the number that it answered
+abbrev pub drawing_number : List ℕ → ℕ → ℕ → ℕ
+drawing_number s from k = word_at s (onward (list_end s (nth_drawing s from k)) 58)
+
 abbrev pub EachDrawingAgrees : List ℕ → ℕ → ℕ → ℕ → ℕ → Type 0
 EachDrawingAgrees s from count bytes words =
     (k : ℕ) → k < count → DrawingAgrees s (nth_drawing s from k) bytes words
 
--- a float's bits; those of a NaN are fixed
-abbrev pub bits_of : Float → ℕ
-bits_of x = if is_nan x then 0x7fc0_0000 else to_bits binary32 x
-
--- the signed number of these 32 bits, which are those of one from -2 ^ 24 up to 2 ^ 30 - 2 ^ 24
+-- ---- placements
+-- the signed number of these 32 bits, where they are those of one from -2 ^ 24 up to 2 ^ 30 - 2 ^ 24
 abbrev pub SignedAgrees : ℤ → ℕ → Type 0
 SignedAgrees x bits =
     let above = onward bits (2 ^ 24) % 2 ^ 32 in
@@ -160,7 +93,7 @@ pub record PlaceAgrees (s : List ℕ) (at : ℕ) (n : PlaceNumbers) : Type 0 whe
   pub height : n.height ≡ word_at s (onward at 28)
   pub cut : n.cut ≡ word_at s (onward at 32)
 
--- the placement at an index stands in the file, and answers what the file has
+-- the placement at an index stands in the file, and placed by the rules it answers what the file has
 pub record PlacementAgrees (s : List ℕ) (at : ℕ) : Type 0 where
   pub ordered : onward at 4 ≤ list_end s at
   pub within : list_end s at ≤ length s
@@ -178,6 +111,10 @@ after_placement s at = onward (list_end s at) 69
 unfoldable pub nth_placement : List ℕ → ℕ → ℕ → ℕ
 nth_placement s from zero = from
 nth_placement s from (suc k) = after_placement s (nth_placement s from k)
+
+-- and the number that it answered
+abbrev pub placement_number : List ℕ → ℕ → ℕ → ℕ
+placement_number s from k = word_at s (onward (list_end s (nth_placement s from k)) 33)
 
 abbrev pub EachPlacementAgrees : List ℕ → ℕ → ℕ → Type 0
 EachPlacementAgrees s from count = (k : ℕ) → k < count → PlacementAgrees s (nth_placement s from k)
