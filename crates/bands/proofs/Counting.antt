@@ -10,8 +10,9 @@ use Rattle.storage.specs.Deposits.{distinct}
 use Rattle.storage.specs.Answers.{most_cells}
 use Rattle.storage.specs.Cells.{Holds}
 use Rattle.command.specs.declared.Command.{Command}
-use Rattle.path.specs.declared.Pool.{Pool}
-use Rattle.path.specs.declared.Pool.TheVariants.{Cells, Full}
+use Rattle.std.specs.Prelude.{Result, Ok, Err}
+use Rattle.path.specs.declared.Overfull.{Overfull}
+use Rattle.path.specs.Storing.{overfull}
 use Rattle.label.specs.declared.Label.{Label}
 use Rattle.label.specs.Checks.{rows}
 use Rattle.label.specs.Draw.{pool_of, log_of, too_many, room_for}
@@ -53,9 +54,9 @@ module _ (l : Label) (z : Sized l) (step : ℕ) (s : List ℕ) (words : ℕ) whe
     abbrev own : Label
     own = band_of l at next
 
-    module _ (before after : List ℕ) (k : Pool) (long : length before ≡ words) (P : Poured own s before after k) where
+    module _ (before after : List ℕ) (k : Result ℕ Overfull) (long : length before ≡ words) (P : Poured own s before after k) where
       -- a band that does not fit
-      module _ (i : ℕ) (f : k ≡ Full i) where
+      module _ (i : ℕ) (f : k ≡ Err (overfull i)) where
         runs_out_is : (cs : List Command) → Reads l s cs → (pool_of own words < distinct (log_of own cs)) × (i ≡ room_for own words cs)
         runs_out_is cs e = rw (f, long) at (P.stored cs e)
 
@@ -65,10 +66,14 @@ module _ (l : Label) (z : Sized l) (step : ℕ) (s : List ℕ) (words : ℕ) whe
         early : i ≤ length s
         early = rw f at P.within
 
-        same_index : (i' : ℕ) → Full i ≡ Full i' → i' ≡ i
-        same_index i' e = cc
+        same_index : (i' : ℕ) → ◌≡◌ {A = Result ℕ Overfull} (Err (overfull i)) (Err (overfull i')) → i' ≡ i
+        same_index i' e = sym (ap index e)
+          where
+            index : Result ℕ Overfull → ℕ
+            index (Ok n) = n
+            index (Err full) = full.«record»
 
-        pub counted_full : Counted l step s words (Full i)
+        pub counted_full : Counted l step s words (Err (overfull i))
         counted_full = record {
           full = λ i' q cs e.
               C.same cs e ∙ one_band l step words cs at inner C.fuel (omega (arith, C.enough)) ∙ rw (yes cs e);
@@ -82,7 +87,7 @@ module _ (l : Label) (z : Sized l) (step : ℕ) (s : List ℕ) (words : ℕ) whe
         }
 
       -- a band that fits
-      module _ (n : ℕ) (f : k ≡ Cells n) where
+      module _ (n : ℕ) (f : k ≡ Ok n) where
         holds : (cs : List Command) → Reads l s cs → Holds after (rows own) l.width n (log_of own cs)
         holds cs e = rw f at (P.stored cs e)
 
@@ -115,7 +120,7 @@ module _ (l : Label) (z : Sized l) (step : ℕ) (s : List ℕ) (words : ℕ) whe
     at_end : at ≡ l.end
     at_end = omega (arith, C.to)
 
-    pub counted_all : Counted l step s words (Cells total)
+    pub counted_all : Counted l step s words (Ok total)
     counted_all = record {
       full = λ i e. absurd (let z : ◌≡◌ {A = ℕ} 0 1 = cc in omega arith);
       named = λ i e. absurd (let z : ◌≡◌ {A = ℕ} 0 1 = cc in omega arith);
@@ -125,5 +130,5 @@ module _ (l : Label) (z : Sized l) (step : ℕ) (s : List ℕ) (words : ℕ) whe
       few = λ n e. let q = same_count n e in omega (arith, C.few, C.to, C.from, z.inside, z.low);
     }
       where
-        same_count : (n : ℕ) → Cells total ≡ Cells n → n ≡ total
+        same_count : (n : ℕ) → ◌≡◌ {A = Result ℕ Overfull} (Ok total) (Ok n) → n ≡ total
         same_count n e = cc

@@ -1,6 +1,6 @@
 -- The bands painted one after the other: the rows before `at` have their pixels, every other byte is as it was.
 use Prim.Native.Nat.{ℕ, ◌+◌, ◌*◌, ◌-◌, ◌≤◌, ◌<◌}
-use mathlib.Core.Path.{◌≡◌, refl, sym, ap, ◌∙◌}
+use mathlib.Core.Path.{◌≡◌, refl, sym, ap, ◌∙◌, subst}
 use mathlib.Core.Bool.{Bool, true, false, cond, ◌||◌}
 use mathlib.Core.Logic.{◌⊎◌, inl, inr}
 use mathlib.Core.List.{List}
@@ -11,19 +11,18 @@ use lib.ListN.{length, get_or, take, drop, length-drop}
 use lib.Seq.{length-take-le, get_or-take, get_or-drop}
 use borrow.Author.Tests.{ltb-false}
 use borrow.Rule.Slice.PartMut.{put_mid}
-use Rattle.storage.specs.Deposits.{distinct}
 use Rattle.storage.specs.Cells.{Holds}
 use Rattle.command.specs.declared.Command.{Command}
 use Rattle.sweep.specs.Masks.{row_at, Swept}
 use Rattle.sweep.specs.Pixels.{pixel}
 use Rattle.sweep.proofs.Lines.{mid_before, mid_inside, mid_behind, mid_long}
 use Rattle.sweep.proofs.Mask.{mask_is, mask_by_bytes}
-use Rattle.path.specs.declared.Pool.{Pool}
-use Rattle.path.specs.declared.Pool.TheVariants.{Cells, Full}
+use Rattle.std.specs.Prelude.{Result, Ok}
+use Rattle.path.specs.declared.Overfull.{Overfull}
 use Rattle.label.specs.declared.Label.{Label}
 use Rattle.label.specs.Checks.{most_pixels, most_pitch, rows}
-use Rattle.label.specs.Draw.{pool_of, painted_of, log_of, too_many, room_for}
-use Rattle.label.specs.Inking.{Sized, Lent, Poured}
+use Rattle.label.specs.Draw.{painted_of, log_of, too_many}
+use Rattle.label.specs.Inking.{Sized, Poured}
 use Rattle.claims.specs.OldContents.{spot_of}
 use Rattle.claims.specs.Bands.{band_of}
 use Rattle.claims.proofs.Painted.{back, on_line, painted_row, other_byte}
@@ -33,16 +32,7 @@ use Rattle.bands.proofs.Cells.{sub_pixel}
 use Rattle.bands.proofs.Rows.{one_band, from_bottom, line_in, row_line}
 
 -- ---- one band
--- a pool that is full was too small
-pub not_poured : (b : Label) (s words words' mask : List ℕ) (k : Pool) {i : ℕ} → k ≡ Full i → Poured b s words words' k → BandPainted b s (length words) mask mask
-not_poured b s words words' mask k {i} f P = record {
-  painted = λ cs e room.
-      absurd
-      (let full : (pool_of b (length words) < distinct (log_of b cs)) × (i ≡ room_for b (length words) cs) = rw f at (P.stored cs e) in
-      omega (arith, full.0));
-}
-
-pub band_swept : (b : Label) → Sized b → (s words words' mask mask' : List ℕ) (k : Pool) {n : ℕ} → k ≡ Cells n → Poured b s words words' k
+pub band_swept : (b : Label) → Sized b → (s words words' mask mask' : List ℕ) (k : Result ℕ Overfull) {n : ℕ} → k ≡ Ok n → Poured b s words words' k
     → Swept words' mask mask' (rows b) n b.width b.fill b.up b.pitch → BandPainted b s (length words) mask mask'
 unfolding painted_of
 band_swept b z s words words' mask mask' k {n} f P S = record {
@@ -74,16 +64,6 @@ pub record Painting (l : Label) (step : ℕ) (s : List ℕ) (words : ℕ) (befor
   pub enough : l.end - at ≤ fuel
   pub shown : (cs : List Command) → Reads l s cs → too_many_in_band step l words cs ≡ false → Shown l step words before after at fuel cs
 
-pub painting_none : (l : Label) (step : ℕ) (s : List ℕ) (words : ℕ) (mask : List ℕ) → Sized l → Painting l step s words mask mask l.first
-painting_none l step s words mask z = record {
-  from = omega arith;
-  to = z.ordered;
-  long = refl;
-  fuel = rows l;
-  enough = omega arith;
-  shown = λ cs e f. record { rest = f; painted = λ y x a b. absurd (omega arith); kept = λ i h. refl };
-}
-
 -- ---- the part of the mask that the band [a, b) is painted into
 module _ (l : Label) (z : Sized l) (mask : List ℕ) (lines : 0 < rows l → l.pitch * (rows l - 1) + l.width ≤ length mask)
     (a b : ℕ) (from : l.first ≤ a) (some : a < b) (to : b ≤ l.end) where
@@ -110,9 +90,6 @@ module _ (l : Label) (z : Sized l) (mask : List ℕ) (lines : 0 < rows l → l.p
   part_near =
       let far : l.pitch * (rows l - 1) ≤ most_pitch * (most_pixels - 1) = mul-le-mul {m₂ = most_pixels - 1} z.near (omega (arith, z.inside, z.low)) in
       omega (arith, part_top, z.narrow)
-
-  pub part_lent : (words : ℕ) → rows l ≤ words → (n : ℕ) → n ≡ size → Lent own n words
-  part_lent words h n e = record { lines = λ g. omega arith; heads = omega arith }
 
   -- a row's byte in the part
   pub byte_in : (y x : ℕ) → a ≤ y → y < b → byte_of l y x ≡ low + byte_of own y x
@@ -273,3 +250,7 @@ module _ (l : Label) (z : Sized l) (step : ℕ) (s : List ℕ) (words : ℕ) (be
         ∙ ap (λ (n : ℕ). pixel l.fill (log_of l cs) n x) c)
         (λ i h. S.kept i (λ y x p q r. h (row_at l.up (rows l) (y - l.first)) x (on_line l.up (rows l) (y - l.first) (omega (arith, P.to))) r));
   }
+
+-- what is painted of a label is painted of one that is the same
+pub as_band : {a b : Label} {s : List ℕ} {words : ℕ} {before after : List ℕ} → a ≡ b → BandPainted a s words before after → BandPainted b s words before after
+as_band {a} {b} {s} {words} {before} {after} e p = subst (λ (l : Label). BandPainted l s words before after) e p

@@ -9,7 +9,6 @@ use Rattle.command.specs.declared.Command.{Command}
 use Rattle.sweep.specs.Masks.{row_at}
 use Rattle.label.specs.declared.Label.{Label}
 use Rattle.label.specs.Checks.{rows}
-use Rattle.label.specs.Inking.{Sized}
 use Rattle.label.specs.Draw.{too_many, room_for}
 use Rattle.claims.specs.Bands.{band_of}
 use Rattle.bands.specs.InBands.{band_end, too_many_from, room_from}
@@ -53,9 +52,6 @@ pub from_bottom : (first end y : ℕ) → first ≤ y → y < end → end - firs
 from_bottom first end y p q = omega arith
 
 module _ (l : Label) (a b : ℕ) (from : l.first ≤ a) (ordered : a ≤ b) (to : b ≤ l.end) where
-  pub band_sized : Sized l → Sized (band_of l a b)
-  band_sized z = record { narrow = z.narrow; low = z.low; ordered = ordered; inside = omega (arith, z.inside); pitched = z.pitched; near = z.near }
-
   -- the band's lines are lines of the label
   pub line_in : line_of l a b + (b - a) ≤ rows l
   line_in = go l.up

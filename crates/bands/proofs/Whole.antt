@@ -3,22 +3,24 @@ use Prim.Native.Nat.{ℕ, zero, suc, ◌*◌, ◌-◌, ◌≤◌, ◌<◌, max}
 use mathlib.Core.Path.{◌≡◌, refl, sym, ap, ◌∙◌}
 use mathlib.Core.Bool.{Bool, true, false}
 use mathlib.Core.List.{List}
-use mathlib.Core.Option.{Option}
 use native.Mathlib.Omega.{arith}
 use lib.ListN.{length, replicate}
 use lib.Dec.{ltb}
 use borrow.Author.Tests.{ltb-true, ltb-false, le-ltb}
+use Rattle.std.specs.Result.{is_ok}
 use Rattle.storage.specs.Deposits.{per_row, distinct}
 use Rattle.command.specs.declared.Command.{Command}
-use Rattle.path.specs.declared.Pool.{Pool}
-use Rattle.path.specs.declared.Pool.TheVariants.{Cells, Full}
+use Rattle.std.specs.Prelude.{Option, Result, Ok, Err}
+use Rattle.path.specs.declared.Overfull.{Overfull}
+use Rattle.path.specs.Inputs.{most_bytes}
+use Rattle.path.specs.Storing.{overfull, Within}
 use Rattle.path.specs.declared.Refusal.TheVariants as refusal
+use Rattle.path.specs.Refusals.{refused_at}
 use Rattle.path.specs.Reading.{path}
 use Rattle.label.specs.declared.Label.{Label}
-use Rattle.label.specs.declared.Answer.TheVariants.{Drawn, Refused}
 use Rattle.label.specs.Checks.{rows}
-use Rattle.label.specs.Draw.{Outcome, outcome, pool_of, painted_of, wiped, log_of, drawn_as, too_many, inked, draw_by, draw_of}
-use Rattle.label.specs.Inking.{Sized, Inked}
+use Rattle.label.specs.Draw.{Answer, drawn_with, Outcome, outcome, pool_of, painted_of, wiped, log_of, drawn_as, too_many, inked, draw_by, draw_of}
+use Rattle.label.specs.Inking.{Sized, most_told, told_of, Inked}
 use Rattle.label.proofs.Sizes.{fitting}
 use Rattle.label.proofs.Drawing.{by_path, drawn_from_is}
 use Rattle.claims.specs.Parts.{band}
@@ -32,17 +34,42 @@ use Rattle.bands.proofs.Rows.{none_left, none_behind, one_band}
 
 -- ---- the outcome of an accepted list
 module _ (l : Label) (step records cut : ℕ) (s mask words : List ℕ) where
-  pub inked_full : (ws' ws'' : List ℕ) → ws'' ≡ replicate (length ws') 0 → length ws' ≡ length words → (k : Pool) (i : ℕ) → k ≡ Full i → Counted l step s (length words) k
-      → Inked (ran_out_in_band step l (length words)) l records cut s mask words (outcome (Refused refusal.Full i) mask ws'')
+  pub inked_full : (ws' ws'' : List ℕ) → ws'' ≡ replicate (length ws') 0 → length ws' ≡ length words → (k : Result ℕ Overfull) (i : ℕ) → k ≡ Err (overfull i) → Counted l step s (length words) k
+      → Inked (ran_out_in_band step l (length words)) l records cut s mask words (outcome (refused_at refusal.Full i) mask ws'')
   unfolding inked
   inked_full ws' ws'' e long k i f C = record { rule = λ cs r m m'. rw (C.full i f cs r, C.named i f cs r, e, long) }
 
-  pub inked_cells : (ws' ws'' mask' : List ℕ) → ws'' ≡ replicate (length ws') 0 → length ws' ≡ length words → (k : Pool) (n : ℕ) → k ≡ Cells n → Counted l step s (length words) k
-      → Painted l step s (length words) mask mask' → Inked (ran_out_in_band step l (length words)) l records cut s mask words (outcome (Drawn records n cut) mask' ws'')
+  pub inked_cells : (ws' ws'' mask' : List ℕ) → ws'' ≡ replicate (length ws') 0 → length ws' ≡ length words → (k : Result ℕ Overfull) (n : ℕ) → k ≡ Ok n → Counted l step s (length words) k
+      → Painted l step s (length words) mask mask' → Inked (ran_out_in_band step l (length words)) l records cut s mask words (outcome (drawn_with records n cut) mask' ws'')
   unfolding inked
   inked_cells ws' ws'' mask' e long k n f C P = record {
     rule = λ cs r m m'. let fit = C.fit n f cs r in rw (fit, e, long, m, m', C.counted n f cs r, P.painted cs r fit);
   }
+
+  -- of what was told of the count
+  abbrev tells : Result ℕ Overfull → Answer
+  tells k = told_of k (record { count = records; cut = cut })
+
+  module _ (ws' ws'' : List ℕ) (e : ws'' ≡ replicate (length ws') 0) (long : length ws' ≡ length words) (k : Result ℕ Overfull) (C : Counted l step s (length words) k) where
+    pub inked_kept : is_ok k ≡ false → Inked (ran_out_in_band step l (length words)) l records cut s mask words (outcome (tells k) mask ws'')
+    inked_kept h = go k refl h
+      where
+        go : (r : Result ℕ Overfull) → k ≡ r → is_ok r ≡ false → Inked (ran_out_in_band step l (length words)) l records cut s mask words (outcome (tells r) mask ws'')
+        go (Err full) f h = inked_full ws' ws'' e long k full.«record» f C
+        go (Ok n) f h = absurd (let z : ◌≡◌ {A = ℕ} 0 1 = cc in omega arith)
+
+    pub inked_painted : is_ok k ≡ true → (mask' : List ℕ) → Painted l step s (length words) mask mask'
+        → Inked (ran_out_in_band step l (length words)) l records cut s mask words (outcome (tells k) mask' ws'')
+    inked_painted h mask' P = go k refl h
+      where
+        go : (r : Result ℕ Overfull) → k ≡ r → is_ok r ≡ true → Inked (ran_out_in_band step l (length words)) l records cut s mask words (outcome (tells r) mask' ws'')
+        go (Ok n) f h = inked_cells ws' ws'' mask' e long k n f C P
+        go (Err full) f h = absurd (let z : ◌≡◌ {A = ℕ} 0 1 = cc in omega arith)
+
+-- counts and records are small enough to be told
+pub tellable : (l : Label) (step : ℕ) (s : List ℕ) (words : ℕ) (k : Result ℕ Overfull) → length s ≤ most_bytes → Counted l step s words k → Within most_told most_told k
+tellable l step s words (Ok n) b C = let few = C.few n refl in omega (arith, few)
+tellable l step s words (Err full) b C = let early = C.early full.«record» refl in omega (arith, early)
 
 -- ---- a label that fits at once fits in bands
 module _ (l : Label) (z : Sized l) (cs : List Command) (step words : ℕ) (positive : 0 < step) (room : distinct (log_of l cs) ≤ pool_of l words) where
@@ -74,7 +101,7 @@ pub bands_are : (step : ℕ) (l : Label) (s mask words : List ℕ) → draw_by (
 unfolding draw_in_bands_of
 bands_are step l s mask words = refl
 
-module _ (step : ℕ) (l : Label) (s mask words : List ℕ) (records cells cut : ℕ) (h : (draw_of l s mask words).answer ≡ Drawn records cells cut) where
+module _ (step : ℕ) (l : Label) (s mask words : List ℕ) (records cells cut : ℕ) (h : (draw_of l s mask words).answer ≡ drawn_with records cells cut) where
   was : Accepted l s (length mask) (length words) records cells cut
   was = accepted l s mask words records cells cut h
 

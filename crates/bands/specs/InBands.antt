@@ -1,15 +1,13 @@
 -- A label drawn in bands: the drawing of docs/RULES.md, but 13 is asked of each band by itself.
-use Rattle.std.specs.Prelude.{ℕ, zero, suc, ◌+◌, min, max, ◌≡◌, Bool, true, false, cond, ◌||◌, List, length, ltb}
-use Rattle.std.proofs.Math.Option.{Option}
+use Rattle.std.specs.Prelude.{ℕ, zero, suc, ◌+◌, min, max, ◌≡◌, Bool, true, false, cond, ◌||◌, List, length, ltb, Option}
 use Rattle.storage.specs.Deposits.{distinct}
 use Rattle.command.specs.declared.Command.{Command}
 use Rattle.raster.specs.Path.{deposits_of}
 use Rattle.path.specs.Strokes.{strokes_of}
 use Rattle.path.specs.Storing.{stored_by, fitting}
 use Rattle.label.specs.declared.Label.{Label}
-use Rattle.label.specs.declared.Answer.TheVariants.{Drawn}
 use Rattle.label.specs.Checks.{rows}
-use Rattle.label.specs.Draw.{Outcome, too_many, room_for, thirteen, draw_by}
+use Rattle.label.specs.Draw.{drawn_with, Outcome, too_many, room_for, thirteen, draw_by}
 use Rattle.claims.specs.Bands.{band_of}
 
 -- a band's end: `step` rows on, or where the label ends
@@ -54,4 +52,4 @@ draw_in_bands_of step l s mask words = draw_by (ran_out_in_band (max 1 step) l (
 
 -- a label that is accepted at once is drawn as at once
 pub record AsAtOnce (once o : Outcome) : Type 0 where
-  pub same : (records cells cut : ℕ) → once.answer ≡ Drawn records cells cut → o ≡ once
+  pub same : (records cells cut : ℕ) → once.answer ≡ drawn_with records cells cut → o ≡ once

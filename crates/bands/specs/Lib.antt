@@ -1,2 +1,3 @@
 pub mod InBands
 pub mod Steps
+pub mod Cutting

@@ -1,10 +1,10 @@
 -- What the functions of a drawing in bands promise one another.
-use Rattle.std.specs.Prelude.{ℕ, ◌-◌, ◌*◌, ◌≤◌, ◌≡◌, true, false, cond, List, length}
+use Rattle.std.specs.Prelude.{ℕ, ◌-◌, ◌*◌, ◌≤◌, ◌≡◌, true, false, cond, List, length, Result, Ok, Err}
 use Rattle.storage.specs.Deposits.{distinct}
 use Rattle.storage.specs.Answers.{most_cells}
 use Rattle.command.specs.declared.Command.{Command}
-use Rattle.path.specs.declared.Pool.{Pool}
-use Rattle.path.specs.declared.Pool.TheVariants.{Cells, Full}
+use Rattle.path.specs.declared.Overfull.{Overfull}
+use Rattle.path.specs.Storing.{overfull}
 use Rattle.path.specs.Reading.{path, read_list}
 use Rattle.label.specs.declared.Label.{Label}
 use Rattle.label.specs.Checks.{most_pixels}
@@ -21,13 +21,13 @@ Reads l s cs = read_list l.transform l.offset s ≡ path cs
 
 -- of an accepted list: full exactly when a band has too many, with the record; else the count is that of the label's
 -- distinct places
-pub record Counted (l : Label) (step : ℕ) (s : List ℕ) (words : ℕ) (r : Pool) : Type 0 where
-  pub full : (i : ℕ) → r ≡ Full i → (cs : List Command) → Reads l s cs → too_many_in_band step l words cs ≡ true
-  pub named : (i : ℕ) → r ≡ Full i → (cs : List Command) → Reads l s cs → i ≡ room_in_band step l words cs
-  pub early : (i : ℕ) → r ≡ Full i → i ≤ length s
-  pub fit : (n : ℕ) → r ≡ Cells n → (cs : List Command) → Reads l s cs → too_many_in_band step l words cs ≡ false
-  pub counted : (n : ℕ) → r ≡ Cells n → (cs : List Command) → Reads l s cs → n ≡ distinct (log_of l cs)
-  pub few : (n : ℕ) → r ≡ Cells n → n ≤ most_cells * most_pixels
+pub record Counted (l : Label) (step : ℕ) (s : List ℕ) (words : ℕ) (r : Result ℕ Overfull) : Type 0 where
+  pub full : (i : ℕ) → r ≡ Err (overfull i) → (cs : List Command) → Reads l s cs → too_many_in_band step l words cs ≡ true
+  pub named : (i : ℕ) → r ≡ Err (overfull i) → (cs : List Command) → Reads l s cs → i ≡ room_in_band step l words cs
+  pub early : (i : ℕ) → r ≡ Err (overfull i) → i ≤ length s
+  pub fit : (n : ℕ) → r ≡ Ok n → (cs : List Command) → Reads l s cs → too_many_in_band step l words cs ≡ false
+  pub counted : (n : ℕ) → r ≡ Ok n → (cs : List Command) → Reads l s cs → n ≡ distinct (log_of l cs)
+  pub few : (n : ℕ) → r ≡ Ok n → n ≤ most_cells * most_pixels
 
 -- of an accepted list that fits: the mask is painted
 pub record BandPainted (b : Label) (s : List ℕ) (words : ℕ) (before after : List ℕ) : Type 0 where

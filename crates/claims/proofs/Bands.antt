@@ -12,14 +12,13 @@ use Rattle.storage.specs.Deposits.{per_row, Deposit, distinct}
 use Rattle.command.specs.declared.Command.{Command}
 use Rattle.sweep.specs.Masks.{row_at}
 use Rattle.sweep.specs.Pixels.{pixel}
-use Rattle.path.specs.declared.Verdict.TheVariants.{Fine}
+use Rattle.std.specs.Prelude.{Ok}
 use Rattle.path.specs.Inputs.{inputs_of}
 use Rattle.path.specs.Reading.{path, read_list}
 use Rattle.path.specs.Strokes.{strokes_of}
 use Rattle.label.specs.declared.Label.{Label}
-use Rattle.label.specs.declared.Answer.TheVariants.{Drawn}
 use Rattle.label.specs.Checks.{most_pixels, rows, sizes_of, checked_of}
-use Rattle.label.specs.Draw.{Outcome, outcome, pool_of, painted_of, wiped, log_of, drawn_as, draw_of}
+use Rattle.label.specs.Draw.{drawn_with, Outcome, outcome, pool_of, painted_of, wiped, log_of, drawn_as, draw_of}
 use Rattle.label.specs.Inking.{Sized, Lent}
 use Rattle.label.proofs.Sizes.{Fitting, fitting, all_fit, sizes_then}
 use Rattle.label.proofs.Drawing.{answered}
@@ -34,9 +33,9 @@ use Rattle.claims.proofs.Painted.{painted_row}
 use Rattle.claims.proofs.Draws.{strokes_near, Accepted, draws, accepted}
 
 -- ---- checks 1 to 5 refuse nothing that fits
-sizes_fine : (l : Label) (mask words : ℕ) → Sized l → Lent l mask words → sizes_of l mask words ≡ Fine
+sizes_fine : (l : Label) (mask words : ℕ) → Sized l → Lent l mask words → sizes_of l mask words ≡ Ok tt
 sizes_fine l mask words z t =
-    sym (all_fit l mask words z.narrow z.low z.ordered z.inside z.pitched z.near (go (ltb 0 (rows l)) refl) t.heads)
+    sym (all_fit l mask words z (go (ltb 0 (rows l)) refl) t.heads)
   where
     go : (b : Bool) → ltb 0 (rows l) ≡ b → (ltb 0 (rows l) && ltb mask (l.pitch * (rows l - 1) + l.width)) ≡ false
     go true e = rw (e, le-ltb mask (l.pitch * (rows l - 1) + l.width) (t.lines (ltb-true 0 (rows l) e)))
@@ -59,7 +58,7 @@ one_path : {cs cs' : List Command} → path cs ≡ path cs' → cs ≡ cs'
 one_path e = cc
 
 -- ---- a whole label that is accepted
-module _ (l : Label) (s mask words : List ℕ) (records cells cut' : ℕ) (h : (draw_of (whole_of l) s mask words).answer ≡ Drawn records cells cut') where
+module _ (l : Label) (s mask words : List ℕ) (records cells cut' : ℕ) (h : (draw_of (whole_of l) s mask words).answer ≡ drawn_with records cells cut') where
   was : Accepted (whole_of l) s (length mask) (length words) records cells cut'
   was = accepted (whole_of l) s mask words records cells cut' h
 
@@ -69,7 +68,7 @@ module _ (l : Label) (s mask words : List ℕ) (records cells cut' : ℕ) (h : (
   narrow : l.width ≤ most_pixels
   narrow = omega (arith, fit.sized.narrow)
 
-  inputs_fine : inputs_of l.transform l.offset (length s) ≡ Fine
+  inputs_fine : inputs_of l.transform l.offset (length s) ≡ Ok tt
   inputs_fine = sizes_then (whole_of l) (length s) (length mask) (length words) (sizes_fine (whole_of l) (length mask) (length words) fit.sized fit.lent) ∙ was.fine
 
   abbrev log : List Deposit
@@ -100,7 +99,7 @@ module _ (l : Label) (s mask words : List ℕ) (records cells cut' : ℕ) (h : (
     own_lent : Lent own (length own-mask) (length own-words)
     own_lent = record { lines = roomy.lines; heads = omega (arith, fit.lent.heads) }
 
-    own_fine : checked_of own (length s) (length own-mask) (length own-words) ≡ Fine
+    own_fine : checked_of own (length s) (length own-mask) (length own-words) ≡ Ok tt
     own_fine = sym (sizes_then own (length s) (length own-mask) (length own-words) (sizes_fine own (length own-mask) (length own-words) own_sized own_lent)) ∙ inputs_fine
 
     -- fewer rows leave at least as large a pool

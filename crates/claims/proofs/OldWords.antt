@@ -3,16 +3,14 @@ use Prim.Native.Nat.{ℕ}
 use mathlib.Core.Path.{◌≡◌, refl, sym, ◌∙◌}
 use mathlib.Core.Bool.{true}
 use mathlib.Core.List.{List}
-use mathlib.Core.Option.{Option, none, some}
 use lib.ListN.{length}
 use Rattle.command.specs.declared.Command.{Command}
-use Rattle.path.specs.declared.Verdict.{Verdict}
-use Rattle.path.specs.declared.Verdict.TheVariants.{Fine, Faulty}
+use Rattle.std.specs.Prelude.{Option, None, Some, ⊤, Result, Ok, Err}
+use Rattle.path.specs.declared.Refusal.{Refusal}
 use Rattle.path.specs.Reading.{Read, refused, path, read_list}
 use Rattle.label.specs.declared.Label.{Label}
-use Rattle.label.specs.declared.Answer.{Answer}
 use Rattle.label.specs.Checks.{checked_of}
-use Rattle.label.specs.Draw.{Outcome, ran_out, inked, drawn_from, checked_draw, draw_by, draw_of}
+use Rattle.label.specs.Draw.{Answer, Outcome, ran_out, inked, drawn_from, checked_draw, draw_by, draw_of}
 use Rattle.claims.specs.OldContents.{wipes, words_after, AlikeButWords, OldWords}
 use Rattle.claims.proofs.WordsAfter.{words_after_by}
 
@@ -30,18 +28,18 @@ record Same (o o' : Outcome) : Type 0 where
 module _ (full : List Command → Option ℕ) (l : Label) (mask words words' : List ℕ) where
   same_inked : (b : Option ℕ) (cs : List Command) → Same (inked b l mask words cs) (inked b l mask words' cs)
   unfolding inked
-  same_inked (some i) cs = record { answer = refl; mask = refl }
-  same_inked none cs = record { answer = refl; mask = refl }
+  same_inked (Some i) cs = record { answer = refl; mask = refl }
+  same_inked None cs = record { answer = refl; mask = refl }
 
   same_drawn : (r : Read) → Same (drawn_from full l mask words r) (drawn_from full l mask words' r)
   unfolding drawn_from
   same_drawn (refused w i) = record { answer = refl; mask = refl }
   same_drawn (path cs) = same_inked (full cs) cs
 
-  same_checked : (s : List ℕ) (v : Verdict) → Same (checked_draw full v l s mask words) (checked_draw full v l s mask words')
+  same_checked : (s : List ℕ) (v : Result ⊤ Refusal) → Same (checked_draw full v l s mask words) (checked_draw full v l s mask words')
   unfolding checked_draw
-  same_checked s (Faulty w) = record { answer = refl; mask = refl }
-  same_checked s Fine = same_drawn (read_list l.transform l.offset s)
+  same_checked s (Err w) = record { answer = refl; mask = refl }
+  same_checked s (Ok u) = same_drawn (read_list l.transform l.offset s)
 
 module _ (full : Label → ℕ → List Command → Option ℕ) (l : Label) (s mask words words' : List ℕ) (e : length words ≡ length words') where
   abbrev before : Outcome

@@ -45,6 +45,9 @@ use Rattle.geometry.proofs.Bounds.contains.Kinds as bounds-contains-kinds
 use Rattle.geometry.proofs.Bounds.contains.Reads as bounds-contains-reads
 use Rattle.geometry.proofs.Placement.compute.Kinds as placement-compute-kinds
 use Rattle.geometry.proofs.Placement.compute.Reads as placement-compute-reads
+use Rattle.command.proofs.Verbs.{one_answer}
+use Rattle.command.proofs.VerbTryFromU16.try_from.Kinds as verb-try-from-kinds
+use Rattle.command.proofs.VerbTryFromU16.try_from.Reads as verb-try-from-reads
 use Rattle.command.proofs.Command.verb.Kinds as command-verb-kinds
 use Rattle.command.proofs.Command.verb.Reads as command-verb-reads
 use Rattle.command.proofs.Command.is_move.Kinds as command-is-move-kinds
@@ -148,6 +151,9 @@ pub placement_compute : OneAnswer 0 placement-compute-kinds.ps placement-compute
 placement_compute κs a z z' e e' p q = p ∙ sym q
 
 -- ---- command
+pub verb_try_from : OneAnswer 0 verb-try-from-kinds.ps verb-try-from-kinds.r verb-try-from-reads.Learnt
+verb_try_from κs a z z' e e' p q = one_answer _ z z' p q
+
 pub command_verb : OneAnswer 0 command-verb-kinds.ps command-verb-kinds.r command-verb-reads.Learnt
 command_verb κs a z z' e e' p q = p ∙ sym q
 

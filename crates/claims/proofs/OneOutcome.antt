@@ -6,27 +6,39 @@ use mathlib.Core.List.{List}
 use contract.Lifetimes.{Lfts}
 use denote.Triple.Clauses.{AtExit}
 use borrow.Fn.Kinds.{ParamKind, ResultKind, Dens, res_t, ended_of, Out}
+use Rattle.std.specs.Prelude.{Result, Ok, Err, MatchResult}
+use Rattle.path.specs.declared.Records.{Records}
+use Rattle.path.specs.declared.Refused.{Refused}
+use Rattle.path.proofs.Telling.{same_ok, same_err, ok_not_err}
+use Rattle.label.specs.declared.Label.{Label}
+use Rattle.label.specs.declared.checked.Checked.{Checked}
 use Rattle.label.specs.Draw.{Outcome}
 use Rattle.label.proofs.draw.Kinds as draw-kinds
 use Rattle.label.proofs.draw.Reads as draw-reads
 use Rattle.label.proofs.check.Kinds as check-kinds
 use Rattle.label.proofs.check.Reads as check-reads
-use Rattle.label.proofs.numbers_of.Kinds as numbers-of-kinds
-use Rattle.label.proofs.numbers_of.Reads as numbers-of-reads
+use Rattle.label.proofs.accept.Kinds as accept-kinds
+use Rattle.label.proofs.accept.Reads as accept-reads
+use Rattle.label.proofs.told.Kinds as told-kinds
+use Rattle.label.proofs.told.Reads as told-reads
+use Rattle.label.proofs.NumbersFromAnswer.from.Kinds as numbers-of-kinds
+use Rattle.label.proofs.NumbersFromAnswer.from.Reads as numbers-of-reads
 use Rattle.placing.proofs.bounds.Kinds as bounds-kinds
 use Rattle.placing.proofs.bounds.Reads as bounds-reads
 use Rattle.placing.proofs.placement.Kinds as placement-kinds
 use Rattle.placing.proofs.placement.Reads as placement-reads
-use Rattle.placing.proofs.box_numbers.Kinds as box-numbers-kinds
-use Rattle.placing.proofs.box_numbers.Reads as box-numbers-reads
-use Rattle.placing.proofs.place_numbers.Kinds as place-numbers-kinds
-use Rattle.placing.proofs.place_numbers.Reads as place-numbers-reads
+use Rattle.placing.proofs.BoxNumbersFromResultBoundsRefused.from.Kinds as box-numbers-kinds
+use Rattle.placing.proofs.BoxNumbersFromResultBoundsRefused.from.Reads as box-numbers-reads
+use Rattle.placing.proofs.PlaceNumbersFromResultLaidRefused.from.Kinds as place-numbers-kinds
+use Rattle.placing.proofs.PlaceNumbersFromResultLaidRefused.from.Reads as place-numbers-reads
 use Rattle.path.proofs.check_inputs.Kinds as check-inputs-kinds
 use Rattle.path.proofs.check_inputs.Reads as check-inputs-reads
-use Rattle.path.proofs.number_of.Kinds as path-number-of-kinds
-use Rattle.path.proofs.number_of.Reads as path-number-of-reads
-use Rattle.list.proofs.number_of.Kinds as list-number-of-kinds
-use Rattle.list.proofs.number_of.Reads as list-number-of-reads
+use Rattle.path.proofs.U32FromRefusal.from.Kinds as path-number-of-kinds
+use Rattle.path.proofs.U32FromRefusal.from.Reads as path-number-of-reads
+use Rattle.list.proofs.U32FromReason.from.Kinds as reason-number-kinds
+use Rattle.list.proofs.U32FromReason.from.Reads as reason-number-reads
+use Rattle.list.proofs.ReasonFromUnknownKind.from.Kinds as unknown-kind-kinds
+use Rattle.list.proofs.ReasonFromUnknownKind.from.Reads as unknown-kind-reads
 use Rattle.list.proofs.step_at.Kinds as step-at-kinds
 use Rattle.list.proofs.step_at.Reads as step-at-reads
 
@@ -45,6 +57,29 @@ draw κs a z z' e e' p q =
 -- ---- label
 pub check : OneAnswer 0 check-kinds.ps check-kinds.r check-reads.Learnt
 check κs a z z' e e' p q = p ∙ sym q
+
+pub told : OneAnswer 0 told-kinds.ps told-kinds.r told-reads.Learnt
+told κs a z z' e e' p q = p ∙ sym q
+
+-- of what `accept` answers, the label and what its list holds, or the refusal
+abbrev pub parts_of : Result (Checked × Records) Refused → Result (Label × Records) Refused
+parts_of (Ok a) = Ok (a.0.label, a.1)
+parts_of (Err refused) = Err refused
+
+one_parts : (l : Label) (v : Result Records Refused) (z z' : Result (Checked × Records) Refused)
+    → MatchResult z (λ a. (a.0.label ≡ l) × (v ≡ Ok a.1)) (λ refused. v ≡ Err refused)
+    → MatchResult z' (λ a. (a.0.label ≡ l) × (v ≡ Ok a.1)) (λ refused. v ≡ Err refused) → parts_of z ≡ parts_of z'
+one_parts l v (Ok a) (Ok b) p q =
+    let label = p.0 ∙ sym q.0 in
+    let records = same_ok (sym p.1 ∙ q.1) in
+    rw (label, records)
+one_parts l v (Ok a) (Err d) p q = ok_not_err (sym p.1 ∙ q)
+one_parts l v (Err d) (Ok b) p q = ok_not_err (sym q.1 ∙ p)
+one_parts l v (Err d) (Err d') p q = ap Err (same_err (sym p ∙ q))
+
+pub accept : (κs : Lfts 1) (a : Dens κs accept-kinds.ps) (z z' : (res_t accept-kinds.r κs).Denot) (e e' : AtExit (ended_of 1 accept-kinds.ps accept-kinds.r) κs)
+    → accept-reads.Learnt κs a z e → accept-reads.Learnt κs a z' e' → parts_of z ≡ parts_of z'
+accept κs a z z' e e' p q = one_parts _ _ z z' p q
 
 pub numbers_of : OneAnswer 0 numbers-of-kinds.ps numbers-of-kinds.r numbers-of-reads.Learnt
 numbers_of κs a z z' e e' p q = p ∙ sym q
@@ -70,8 +105,11 @@ pub path_number_of : OneAnswer 0 path-number-of-kinds.ps path-number-of-kinds.r 
 path_number_of κs a z z' e e' p q = p ∙ sym q
 
 -- ---- list
-pub list_number_of : OneAnswer 0 list-number-of-kinds.ps list-number-of-kinds.r list-number-of-reads.Learnt
+pub list_number_of : OneAnswer 0 reason-number-kinds.ps reason-number-kinds.r reason-number-reads.Learnt
 list_number_of κs a z z' e e' p q = p ∙ sym q
+
+pub unknown_kind : OneAnswer 0 unknown-kind-kinds.ps unknown-kind-kinds.r unknown-kind-reads.Learnt
+unknown_kind κs a z z' e e' p q = p ∙ sym q
 
 pub step_at_is : OneAnswer 1 step-at-kinds.ps step-at-kinds.r step-at-reads.Learnt
 step_at_is κs a z z' e e' p q = p ∙ sym q

@@ -5,10 +5,8 @@ use Rattle.sweep.specs.Masks.{row_at}
 use Rattle.sweep.specs.Pixels.{pixel}
 use Rattle.path.specs.Reading.{path, read_list}
 use Rattle.label.specs.declared.Label.{Label}
-use Rattle.label.specs.declared.Answer.{Answer}
-use Rattle.label.specs.declared.Answer.TheVariants.{Drawn}
 use Rattle.label.specs.Checks.{most_pitch, rows}
-use Rattle.label.specs.Draw.{Outcome, numbers_of, log_of, draw_of}
+use Rattle.label.specs.Draw.{Answer, drawn_with, Outcome, numbers_of, log_of, draw_of}
 use Rattle.claims.specs.OldContents.{spot_of}
 
 -- the band [first, end) of a label, all of which is [0, height)
@@ -56,7 +54,7 @@ pub record Roomy (l : Label) (mask : List ℕ) : Type 0 where
 -- has the byte that it has in the whole, and that is the rule's for the whole
 pub record Agrees (l band : Label) (s : List ℕ) (records cut : ℕ) (part whole : Outcome) : Type 0 where
   pub cells : ℕ
-  pub accepted : part.answer ≡ Drawn records cells cut
+  pub accepted : part.answer ≡ drawn_with records cells cut
   pub pixels : (y x : ℕ) → band.first ≤ y → y < band.end → x < l.width → byte_for band y x part.mask ≡ byte_for (whole_of l) y x whole.mask
   pub ruled : (cs : List Command) → read_list l.transform l.offset s ≡ path cs → (y x : ℕ) → band.first ≤ y → y < band.end → x < l.width
       → byte_for band y x part.mask ≡ pixel l.fill (log_of (whole_of l) cs) y x

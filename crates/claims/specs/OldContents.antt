@@ -1,25 +1,23 @@
 -- docs/RULES.md, "What a call leaves": old bytes and old words have no say in an answer, a count or a written byte, and
 -- what no rule names is kept. Of a rule of drawing, such as `draw_of`, for every label, list, mask and workspace.
-use Rattle.std.specs.Prelude.{ℕ, ◌+◌, ◌*◌, ◌<◌, ◌≡◌, Bool, true, false, cond, List, eqb, length, get_or, replicate}
+use Rattle.std.specs.Prelude.{ℕ, ◌+◌, ◌*◌, ◌<◌, ◌≡◌, Bool, true, false, cond, List, eqb, length, get_or, replicate, Ok, Err}
 use Rattle.path.specs.Refusals.{number_of}
 use Rattle.label.specs.declared.Label.{Label}
-use Rattle.label.specs.declared.Answer.{Answer}
-use Rattle.label.specs.declared.Answer.TheVariants.{Drawn, Refused}
 use Rattle.label.specs.Checks.{rows}
-use Rattle.label.specs.Draw.{Outcome}
+use Rattle.label.specs.Draw.{Answer, Outcome}
 
 -- a rule of drawing: the label, the list, the mask and the workspace
 abbrev pub Drawing : Type 0
 Drawing = Label → List ℕ → List ℕ → List ℕ → Outcome
 
 abbrev pub accepts : Answer → Bool
-accepts (Drawn records cells cut) = true
-accepts (Refused why index) = false
+accepts (Ok d) = true
+accepts (Err r) = false
 
 -- 0 or 13
 abbrev pub wipes : Answer → Bool
-wipes (Drawn records cells cut) = true
-wipes (Refused why index) = eqb (number_of why) 13
+wipes (Ok d) = true
+wipes (Err r) = eqb (number_of r.why) 13
 
 -- ---- the words
 

@@ -4,10 +4,11 @@
 
 ghost use Rattle.std.specs.Prelude.{◌≡◌};
 ghost use Rattle.command.specs.Commands.{verb_of, moved_all, is_move, is_close, draws};
+ghost use Rattle.command.specs.Kinds.{Decodes};
 
 use geometry::{Point, Transform};
 
-#[derive(Clone, Copy)]
+#[derive(Clone, Copy, Debug, PartialEq)]
 pub enum Command {
     // Begins a new subpath at the point.
     MoveTo(Point),
@@ -22,13 +23,35 @@ pub enum Command {
 }
 
 // What a command does.
-#[derive(Clone, Copy)]
+#[derive(Clone, Copy, Debug, PartialEq, Eq)]
 pub enum Verb {
     MoveTo,
     LineTo,
     QuadTo,
     CurveTo,
     Close,
+}
+
+// The kind of a record that no command has.
+#[derive(Clone, Copy, Debug, PartialEq, Eq)]
+pub struct UnknownKind(pub u16);
+
+// The verb of a record's kind.
+impl TryFrom<u16> for Verb {
+    type Error = UnknownKind;
+
+    ghost try_from_gives = { Decodes };
+
+    fn try_from(kind: u16) -> Result<Self, UnknownKind> {
+        match kind {
+            1 => Ok(Verb::MoveTo),
+            2 => Ok(Verb::LineTo),
+            3 => Ok(Verb::QuadTo),
+            4 => Ok(Verb::CurveTo),
+            5 => Ok(Verb::Close),
+            _ => Err(UnknownKind(kind)),
+        }
+    }
 }
 
 impl Command {
@@ -49,42 +72,28 @@ impl Command {
     pub fn is_move(self) -> bool
         ensures { result ≡ is_move self }
     {
-        match self {
-            Command::MoveTo(_) => true,
-            Command::LineTo(_) => false,
-            Command::QuadTo(_, _) => false,
-            Command::CurveTo(_, _, _) => false,
-            Command::Close => false,
-        }
+        matches!(self, Command::MoveTo(_))
     }
 
     // Whether the command is a Close.
     pub fn is_close(self) -> bool
         ensures { result ≡ is_close self }
     {
-        match self {
-            Command::MoveTo(_) => false,
-            Command::LineTo(_) => false,
-            Command::QuadTo(_, _) => false,
-            Command::CurveTo(_, _, _) => false,
-            Command::Close => true,
-        }
+        matches!(self, Command::Close)
     }
 
     // Whether the command draws: a LineTo, a QuadTo or a CurveTo.
     pub fn draws(self) -> bool
         ensures { result ≡ draws self }
     {
-        match self {
-            Command::MoveTo(_) => false,
-            Command::LineTo(_) => true,
-            Command::QuadTo(_, _) => true,
-            Command::CurveTo(_, _, _) => true,
-            Command::Close => false,
-        }
+        matches!(
+            self,
+            Command::LineTo(_) | Command::QuadTo(_, _) | Command::CurveTo(_, _, _)
+        )
     }
 
     // The command with each of its points transformed.
+    #[tactic(auto, unfolding(crate::specs::Commands::moved_all))]
     pub fn transform(self, t: Transform) -> Command
         ensures { result ≡ moved_all t self }
     {

@@ -10,7 +10,7 @@ use Rattle.storage.specs.Answers.{Within}
 use Rattle.fixed.specs.declared.FixedPoint.{FixedPoint}
 use Rattle.fixed.specs.Split.{zero_point, point_of, split_cubic, Every}
 use Rattle.fixed.proofs.Range.{cubic_keeps}
-use Rattle.pen.specs.declared.Frame.{Frame}
+use Rattle.pen.specs.declared.boards.Board.{Board}
 use Rattle.pen.specs.declared.Pen.{Pen}
 use Rattle.pen.specs.Marks.{Mark}
 use Rattle.pen.specs.Drawing.{Drew}
@@ -32,12 +32,12 @@ pub record Standing (arc : List FixedPoint) (a : ℕ) : Type 0 where
   pub reach : Every Reach (a + 4) arc
   pub deep : Stacked (stack arc a)
 
-pub record Going (f : Frame) (cap : ℕ) (ws₀ : List ℕ) (start : Pen) (curve : List Mark) (ws : List ℕ) (arc : List FixedPoint) (a : ℕ) (pen : Pen) (from : FixedPoint) : Type 0 where
+pub record Going (board : Board) (ws₀ : List ℕ) (start : Pen) (curve : List Mark) (ws : List ℕ) (arc : List FixedPoint) (a : ℕ) (pen : Pen) (from : FixedPoint) : Type 0 where
   pub standing : Standing arc a
   pub from_in : Reach from
   pub made : List Mark
-  pub drew : Drew f cap ws₀ ws start pen made
-  pub rest : made ++ along f from (points (stack arc a)) ≡ curve
+  pub drew : Drew board ws₀ ws start pen made
+  pub rest : made ++ along board.frame from (points (stack arc a)) ≡ curve
 
 module _ (arc : List FixedPoint) (a : ℕ) (h : Standing arc a) where
   top : stack arc a ≡ cubic_at arc a ∷ cubics arc (a / 3)
@@ -114,42 +114,42 @@ module _ (arc : List FixedPoint) (a : ℕ) (h : Standing arc a) where
     pub drawn_less : 3 ≤ a → steps (stack arc (a - 3)) < steps (stack arc a)
     drawn_less g = omega (arith, ap (λ k. steps (cubics arc k)) (pop g), flat_steps (cubic_at arc a) (cubics arc (a / 3)) e, ap steps top)
 
-module _ (f : Frame) (cap : ℕ) (ws₀ : List ℕ) (start : Pen) (curve : List Mark) (ws : List ℕ) (arc : List FixedPoint) (a : ℕ) (pen : Pen) (from : FixedPoint)
-    (g : Going f cap ws₀ start curve ws arc a pen from) where
-  pub going_split : (s : List FixedPoint) → curved (cubic_at arc a) ≡ true → s ≡ split_cubic (segment arc a) → Going f cap ws₀ start curve ws (put6 arc a s) (a + 3) pen from
+module _ (board : Board) (ws₀ : List ℕ) (start : Pen) (curve : List Mark) (ws : List ℕ) (arc : List FixedPoint) (a : ℕ) (pen : Pen) (from : FixedPoint)
+    (g : Going board ws₀ start curve ws arc a pen from) where
+  pub going_split : (s : List FixedPoint) → curved (cubic_at arc a) ≡ true → s ≡ split_cubic (segment arc a) → Going board ws₀ start curve ws (put6 arc a s) (a + 3) pen from
   going_split s e q =
       record {
         standing = split_standing arc a g.standing e s q;
         from_in = g.from_in;
         made = g.made;
         drew = g.drew;
-        rest = ap (λ ps. g.made ++ along f from ps) (same_points arc a g.standing e s q) ∙ g.rest;
+        rest = ap (λ ps. g.made ++ along board.frame from ps) (same_points arc a g.standing e s q) ∙ g.rest;
       }
 
-  module _ (ws' : List ℕ) (pen' : Pen) (e : curved (cubic_at arc a) ≡ false) (d : Drew f cap ws ws' pen pen' (line_marks f from (point_of arc a))) where
-    one_more : (g.made ++ line_marks f from (point_of arc a)) ++ along f (point_of arc a) (points (cubics arc (a / 3))) ≡ curve
+  module _ (ws' : List ℕ) (pen' : Pen) (e : curved (cubic_at arc a) ≡ false) (d : Drew board ws ws' pen pen' (line_marks board.frame from (point_of arc a))) where
+    one_more : (g.made ++ line_marks board.frame from (point_of arc a)) ++ along board.frame (point_of arc a) (points (cubics arc (a / 3))) ≡ curve
     one_more =
-        append_assoc g.made (line_marks f from (point_of arc a)) _
-        ∙ ap (λ ms. g.made ++ ms) (sym (along_next f from (point_of arc a) _))
-        ∙ ap (λ ps. g.made ++ along f from ps) (sym (next_points arc a g.standing e))
+        append_assoc g.made (line_marks board.frame from (point_of arc a)) _
+        ∙ ap (λ ms. g.made ++ ms) (sym (along_next board.frame from (point_of arc a) _))
+        ∙ ap (λ ps. g.made ++ along board.frame from ps) (sym (next_points arc a g.standing e))
         ∙ g.rest
 
-    pub going_drawn : 3 ≤ a → Going f cap ws₀ start curve ws' arc (a - 3) pen' (point_of arc a)
+    pub going_drawn : 3 ≤ a → Going board ws₀ start curve ws' arc (a - 3) pen' (point_of arc a)
     going_drawn h =
         record {
           standing = drawn_standing arc a g.standing e h;
           from_in = g.standing.reach.at a (omega arith);
-          made = g.made ++ line_marks f from (point_of arc a);
-          drew = drew_then f cap g.drew d;
+          made = g.made ++ line_marks board.frame from (point_of arc a);
+          drew = drew_then board g.drew d;
           rest = rw (pop arc a g.standing e h) one_more;
         }
 
-    pub going_done : a ≡ 0 → Drew f cap ws₀ ws' start pen' curve
+    pub going_done : a ≡ 0 → Drew board ws₀ ws' start pen' curve
     unfolding cubics points
     going_done z =
-        let t : along f (point_of arc a) (points (cubics arc (a / 3))) ≡ [] = ap (λ k. along f (point_of arc a) (points (cubics arc (k / 3)))) z ∙ along_none f (point_of arc a) in
-        let u : g.made ++ line_marks f from (point_of arc a) ≡ curve = sym (append-nil _) ∙ ap (λ ms. (g.made ++ line_marks f from (point_of arc a)) ++ ms) (sym t) ∙ one_more in
-        subst (Drew f cap ws₀ ws' start pen') u (drew_then f cap g.drew d)
+        let t : along board.frame (point_of arc a) (points (cubics arc (a / 3))) ≡ [] = ap (λ k. along board.frame (point_of arc a) (points (cubics arc (k / 3)))) z ∙ along_none board.frame (point_of arc a) in
+        let u : g.made ++ line_marks board.frame from (point_of arc a) ≡ curve = sym (append-nil _) ∙ ap (λ ms. (g.made ++ line_marks board.frame from (point_of arc a)) ++ ms) (sym t) ∙ one_more in
+        subst (Drew board ws₀ ws' start pen') u (drew_then board g.drew d)
 
 -- ---- the start
 abbrev pub started : FixedPoint → FixedPoint → FixedPoint → FixedPoint → List FixedPoint
@@ -177,13 +177,13 @@ module _ (a c d b : FixedPoint) (ra : Reach a) (rc : Reach c) (rd : Reach d) (rb
         deep = more (reach_flat (cubic a c d b) all_four) none;
       }
 
-  pub going_started : (f : Frame) (cap : ℕ) (ws : List ℕ) (pen : Pen) → Within cap pen.kept → Going f cap ws pen (along f a (cubic_points a c d b)) ws (started a c d b) 0 pen a
+  pub going_started : (board : Board) (ws : List ℕ) (pen : Pen) → Within board.cap pen.kept → Going board ws pen (along board.frame a (cubic_points a c d b)) ws (started a c d b) 0 pen a
   unfolding cubics
-  going_started f cap ws pen w =
+  going_started board ws pen w =
       record {
         standing = started_standing;
         from_in = ra;
         made = [];
-        drew = drew_none f cap w;
-        rest = ap (along f a) (sym (reach_points a c d b all_four));
+        drew = drew_none board w;
+        rest = ap (along board.frame a) (sym (reach_points a c d b all_four));
       }

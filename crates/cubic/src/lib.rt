@@ -4,14 +4,15 @@
 
 ghost use Rattle.std.specs.Prelude.{◌≡◌};
 ghost use Rattle.storage.specs.Answers.{Within};
-ghost use Rattle.fixed.specs.Fixed.{apart};
 ghost use Rattle.pen.specs.Drawing.{Ready, Drew};
-ghost use Rattle.line.specs.Range.{Reach};
-ghost use Rattle.line.specs.Lines.{past, ahead, along};
-ghost use Rattle.cubic.specs.Cubics.{far, bent, curved, cubic_of, cubic_points, all_past, all_ahead, cubic_marks};
+ghost use Rattle.line.specs.Lines.{along};
+ghost use Rattle.cubic.specs.Cubics.{far, bent, curved, cubic_of, cubic_points, cubic_marks};
 
+mod cubics;
+
+pub use cubics::Cubic;
 use fixed::FixedPoint;
-use pen::{Frame, Pen};
+use pen::{Board, Pen};
 
 // A cubic is one line unless a number of its flatness test exceeds this.
 const HALF_PIXEL: u64 = 128;
@@ -19,36 +20,24 @@ const HALF_PIXEL: u64 = 128;
 // The stack's points: a cubic's four, and three more for each cubic that waits below it.
 const PLACES: usize = 129;
 
-fn wide(n: u32) -> u64
-    ensures { result ≡ n }
-{
-    n as u64
-}
-
-fn abs_diff(a: u64, b: u64) -> u64
-    ensures { result ≡ apart a b }
-{
-    if a < b {
-        return b - a;
-    }
-    a - b
-}
-
 // Whether two numbers are more than half a pixel apart.
 fn is_far(a: u64, b: u64) -> bool
     ensures { result ≡ far a b }
 {
-    HALF_PIXEL < abs_diff(a, b)
+    HALF_PIXEL < a.abs_diff(b)
 }
 
 // Whether a cubic bends too far for one line, on one axis.
+#[tactic(auto, unfolding(crate::specs::Cubics::bent))]
 fn is_bent(p0: u32, p1: u32, p2: u32, p3: u32) -> bool
     ensures { result ≡ bent p0 p1 p2 p3 }
 {
-    is_far(2 * wide(p0) + wide(p3), 3 * wide(p1)) || is_far(wide(p0) + 2 * wide(p3), 3 * wide(p2))
+    is_far(2 * u64::from(p0) + u64::from(p3), 3 * u64::from(p1))
+        || is_far(u64::from(p0) + 2 * u64::from(p3), 3 * u64::from(p2))
 }
 
 // The same on either axis.
+#[tactic(auto, unfolding(crate::specs::Cubics::curved))]
 fn is_curved(p: [FixedPoint; 4]) -> bool
     ensures { result ≡ curved (cubic_of p) }
 {
@@ -59,54 +48,17 @@ fn is_curved(p: [FixedPoint; 4]) -> bool
     is_bent(p0.x, p1.x, p2.x, p3.x) || is_bent(p0.y, p1.y, p2.y, p3.y)
 }
 
-// Whether a number's row is at or past the band's end.
-fn is_past(f: Frame, y: u32) -> bool
-    ensures { result ≡ past f y }
-{
-    f.end <= wide(fixed::trunc(y))
-}
-
-// Whether a number's row is before the band's first.
-fn is_ahead(f: Frame, y: u32) -> bool
-    ensures { result ≡ ahead f y }
-{
-    wide(fixed::trunc(y)) < f.first
-}
-
-// Whether every point is at or past the band's end.
-fn are_past(f: Frame, a: FixedPoint, c: FixedPoint, d: FixedPoint, b: FixedPoint) -> bool
-    ensures { result ≡ all_past f a c d b }
-{
-    is_past(f, a.y) && is_past(f, c.y) && is_past(f, d.y) && is_past(f, b.y)
-}
-
-// Whether every point is before the band's first row.
-fn are_ahead(f: Frame, a: FixedPoint, c: FixedPoint, d: FixedPoint, b: FixedPoint) -> bool
-    ensures { result ≡ all_ahead f a c d b }
-{
-    is_ahead(f, a.y) && is_ahead(f, c.y) && is_ahead(f, d.y) && is_ahead(f, b.y)
-}
-
 // The lines of a cubic from a to b with the control points c and d. The cubic at hand has its end at arc[top], and those
 // that wait lie below it, the next one nearest.
-fn flatten(
-    ws: &mut [u32],
-    f: Frame,
-    cap: usize,
-    start: Pen,
-    a: FixedPoint,
-    c: FixedPoint,
-    d: FixedPoint,
-    b: FixedPoint,
-) -> Pen
-    requires ready { Ready f cap ws.old }
-    requires within { Within cap start.kept }
-    requires reach_a { Reach a }
-    requires reach_c { Reach c }
-    requires reach_d { Reach d }
-    requires reach_b { Reach b }
-    ensures { Drew f cap ws.old ws.new start result (along f a (cubic_points a c d b)) }
+// The loop is not that of a quad: each part is tested before it is halved, while a quad's halvings are counted before its loop.
+// The stack is an array of points with its top beside it: nothing here has a heap, and cubics that lie next to each other share an
+// end point, which a stack of cubics would hold twice.
+fn flatten(ws: &mut [u32], board: Board, start: Pen, cubic: Cubic) -> Pen
+    requires ready { Ready board ws.old }
+    requires within { Within board.cap start.kept }
+    ensures { Drew board ws.old ws.new start result (along board.frame cubic.a (cubic_points cubic.a cubic.c cubic.d cubic.b)) }
 {
+    let Cubic { a, c, d, b, .. } = cubic;
     let mut arc = [FixedPoint { x: 0, y: 0 }; PLACES];
     arc[0] = b;
     arc[1] = d;
@@ -119,7 +71,7 @@ fn flatten(
         let four = [arc[top], arc[top + 1], arc[top + 2], arc[top + 3]];
         if is_curved(four) {
             if PLACES < top + 7 {
-                return line::line_to(ws, f, cap, pen, from, b);
+                return line::line_to(ws, board, pen, from, b);
             }
             let seven = fixed::split_cubic(four);
             arc[top + 1] = seven[1];
@@ -131,7 +83,7 @@ fn flatten(
             top += 3;
         } else {
             let p = arc[top];
-            pen = line::line_to(ws, f, cap, pen, from, p);
+            pen = line::line_to(ws, board, pen, from, p);
             if top == 0 {
                 return pen;
             }
@@ -143,29 +95,15 @@ fn flatten(
 
 // A cubic from the pen point a to b, with the control points c and d. One whose points are all past one band edge only
 // moves the pen point, which the caller keeps.
-pub fn curve_to(
-    ws: &mut [u32],
-    f: Frame,
-    cap: usize,
-    pen: Pen,
-    a: FixedPoint,
-    c: FixedPoint,
-    d: FixedPoint,
-    b: FixedPoint,
-) -> Pen
-    requires ready { Ready f cap ws.old }
-    requires within { Within cap pen.kept }
-    requires reach_a { Reach a }
-    requires reach_c { Reach c }
-    requires reach_d { Reach d }
-    requires reach_b { Reach b }
-    ensures { Drew f cap ws.old ws.new pen result (cubic_marks f a c d b) }
+pub fn curve_to(ws: &mut [u32], board: Board, pen: Pen, cubic: Cubic) -> Pen
+    requires ready { Ready board ws.old }
+    requires within { Within board.cap pen.kept }
+    ensures { Drew board ws.old ws.new pen result (cubic_marks board.frame cubic.a cubic.c cubic.d cubic.b) }
 {
-    if are_past(f, a, c, d, b) {
+    let Cubic { a, c, d, b, .. } = cubic;
+    let frame = board.frame;
+    if line::all_past(frame, [a, c, d, b]) || line::all_ahead(frame, [a, c, d, b]) {
         return pen;
     }
-    if are_ahead(f, a, c, d, b) {
-        return pen;
-    }
-    flatten(ws, f, cap, pen, a, c, d, b)
+    flatten(ws, board, pen, cubic)
 }

@@ -1,7 +1,7 @@
 -- The product with 256 is exact or beyond every limit, so its cut is that of the float's own m · 2 ^ e · 256 (`cut-scaled` of the crate `float`);
--- a cut that is `Far` is beyond the limit, and the sign of a zero does not show. Assumes nothing.
+-- a cut that is `None` is beyond the limit, and the sign of a zero does not show. Assumes nothing.
 use mathlib.Core.Path.{◌≡◌, refl, sym, ap, ◌∙◌}
-use mathlib.Core.Bool.{Bool, true, false, not}
+use mathlib.Core.Bool.{Bool, true, false, cond, not}
 use Prim.Native.Nat.{ℕ, ◌+◌, ◌*◌, ◌/◌, ◌%◌, ◌^◌}
 use native.Mathlib.Omega.{arith}
 use lib.Dec.{T, ltb, eqb}
@@ -9,22 +9,21 @@ use lib.IntN.{ℤ}
 use lib.Ieee.{Float, nan, inf, fin, binary32, up, down, mul, fits, lt, of_bits}
 use lib.Ieee.Fits.{down_pos}
 use borrow.Author.Tests.{ltb-false, le-ltb, lt-leb}
-use Rattle.float.specs.declared.Cut.TheVariants.{Near, Far}
-use Rattle.float.specs.Cut.{zero_f, pick_cut, sized_of}
+use Rattle.float.specs.Cut.{zero_f, near, sized_of}
 use Rattle.float.proofs.Fractions.{zero_size}
 use Rattle.float.proofs.Exact.{cut_scaled}
-use Rattle.fixed.specs.declared.Fix.TheVariants.{Fixed, Refused}
-use Rattle.fixed.specs.Fixed.{limit, held_of, pick_fix, within_limit, to_fixed}
+use Rattle.std.specs.Prelude.{None}
+use Rattle.fixed.specs.Fixed.{limit, held_of, fix, within_limit, to_fixed}
 use Rattle.fixed.specs.Scaled.{fix_from, scaled_fixed}
 
 -- what is far is beyond the limit
-from_cut : (b : Bool) (n : ℕ) (r : Bool) → fix_from (pick_cut (ltb n (2 ^ 24)) (Near b n r) Far) ≡ within_limit b n r
+from_cut : (b : Bool) (n : ℕ) (r : Bool) → fix_from (cond (ltb n (2 ^ 24)) (near b n r) None) ≡ within_limit b n r
 unfolding fix_from
 from_cut b n r = go (ltb n (2 ^ 24)) refl
   where
-    go : (u : Bool) → ltb n (2 ^ 24) ≡ u → fix_from (pick_cut u (Near b n r) Far) ≡ within_limit b n r
+    go : (u : Bool) → ltb n (2 ^ 24) ≡ u → fix_from (cond u (near b n r) None) ≡ within_limit b n r
     go true p = refl
-    go false p = sym (ap (λ (u : Bool). pick_fix u (Fixed (held_of b n) r) Refused) (lt-leb n limit (omega (arith, ltb-false n (2 ^ 24) p))))
+    go false p = sym (ap (λ (u : Bool). cond u (fix (held_of b n) r) None) (lt-leb n limit (omega (arith, ltb-false n (2 ^ 24) p))))
 
 -- the sign of a zero does not show
 signs : (s : Bool) (m : ℕ) (e : ℤ) (r : Bool) → within_limit (lt (fin s m e) zero_f) (m * up e * 256 / down e) r ≡ within_limit s (m * up e * 256 / down e) r

@@ -1,7 +1,7 @@
 -- A fixed number stays in range: the point rule bounds it, and a split point is a mean of points, rounded down, so it stays between their bounds.
 -- Assumes nothing.
 use mathlib.Core.Path.{◌≡◌, refl, subst}
-use mathlib.Core.Bool.{Bool, true, false, not}
+use mathlib.Core.Bool.{Bool, true, false, cond, not}
 use mathlib.Core.List.{List}
 use Prim.Native.Nat.{ℕ, zero, suc, ◌+◌, ◌-◌, ◌*◌, ◌/◌, ◌%◌, ◌≤◌, ◌<◌}
 use native.Mathlib.Omega.{arith}
@@ -11,10 +11,9 @@ use borrow.Author.Tests.{leb-true}
 use Rattle.geometry.specs.declared.Point.{Point}
 use Rattle.fixed.specs.declared.FixedPoint.{FixedPoint}
 use Rattle.fixed.specs.declared.Fix.{Fix}
-use Rattle.fixed.specs.declared.Fix.TheVariants.{Fixed, Refused}
+use Rattle.std.specs.Prelude.{Option, None, Some}
 use Rattle.fixed.specs.declared.Spot.{Spot}
-use Rattle.fixed.specs.declared.Spot.TheVariants.{At, Outside}
-use Rattle.fixed.specs.Fixed.{limit, bias, held_of, pick_fix, within_limit, to_fixed, spot_from, spot_of, cell}
+use Rattle.fixed.specs.Fixed.{limit, bias, held_of, fix, within_limit, to_fixed, spot, spot_from, spot_of, cell}
 use Rattle.fixed.specs.Split.{point_of, mid, mid4, mid8, split_quad, split_cubic, Between, Within, Every}
 
 -- ---- a mean of numbers
@@ -117,9 +116,9 @@ pub cubic_within : {lo hi : ℕ} {l : List FixedPoint} → Every (Within lo hi) 
 cubic_within h = cubic_keeps (within_kept _ _) h
 
 -- ---- the point rule
-abbrev InRange : Fix → Type 0
-InRange (Fixed n c) = Between (bias - limit) (bias + limit) n
-InRange Refused = Unit
+abbrev InRange : Option Fix → Type 0
+InRange (Some f) = Between (bias - limit) (bias + limit) f.at
+InRange None = Unit
 
 held_between : (s : Bool) (n : ℕ) → n ≤ limit → Between (bias - limit) (bias + limit) (held_of s n)
 held_between true n h = record { low = omega arith; high = omega arith }
@@ -128,7 +127,7 @@ held_between false n h = record { low = omega arith; high = omega arith }
 limited : (s : Bool) (n : ℕ) (r : Bool) → InRange (within_limit s n r)
 limited s n r = go (leb n limit) refl
   where
-    go : (u : Bool) → leb n limit ≡ u → InRange (pick_fix u (Fixed (held_of s n) r) Refused)
+    go : (u : Bool) → leb n limit ≡ u → InRange (cond u (fix (held_of s n) r) None)
     go true h = held_between s n (leb-true n limit h)
     go false h = tt
 
@@ -138,22 +137,22 @@ in_range nan = tt
 in_range (inf s) = tt
 in_range (fin s m e) = limited s (m * up e * 256 / down e) (not (eqb (m * up e * 256 % down e) 0))
 
-pub fixed_between : (v : Float) (n : ℕ) (c : Bool) → to_fixed v ≡ Fixed n c → Between (bias - limit) (bias + limit) n
+pub fixed_between : (v : Float) (n : ℕ) (c : Bool) → to_fixed v ≡ fix n c → Between (bias - limit) (bias + limit) n
 fixed_between v n c h = subst InRange h (in_range v)
 
-abbrev InPlace : Spot → Type 0
-InPlace (At q k) = Within (bias - limit) (bias + limit) q
-InPlace Outside = Unit
+abbrev InPlace : Option Spot → Type 0
+InPlace (Some s) = Within (bias - limit) (bias + limit) s.point
+InPlace None = Unit
 
-placed : (f g : Fix) → InRange f → InRange g → InPlace (spot_from f g)
+placed : (f g : Option Fix) → InRange f → InRange g → InPlace (spot_from f g)
 unfolding spot_from
-placed (Fixed x a) (Fixed y b) p q = record { x_in = p; y_in = q }
-placed (Fixed x a) Refused p q = tt
-placed Refused g p q = tt
+placed (Some f) (Some g) p q = record { x_in = p; y_in = q }
+placed (Some f) None p q = tt
+placed None g p q = tt
 
 in_place : (p : Point) → InPlace (spot_of p)
 unfolding spot_of
 in_place p = placed (to_fixed p.x) (to_fixed p.y) (in_range p.x) (in_range p.y)
 
-pub spot_within : (p : Point) (q : FixedPoint) (k : ℕ) → spot_of p ≡ At q k → Within (bias - limit) (bias + limit) q
+pub spot_within : (p : Point) (q : FixedPoint) (k : ℕ) → spot_of p ≡ spot q k → Within (bias - limit) (bias + limit) q
 spot_within p q k h = subst InPlace h (in_place p)

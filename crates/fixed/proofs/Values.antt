@@ -14,8 +14,9 @@ use lib.Ieee.{fin, up, down}
 use borrow.Author.Tests.{leb-true}
 use Rattle.float.specs.Differences.{◌⊖◌}
 use Rattle.float.proofs.Differences.{which, ⊖_up, ⊖_down, ⊖_zero, ⊖_add, ⊖_mul}
-use Rattle.fixed.specs.declared.Fix.TheVariants.{Fixed, Refused}
-use Rattle.fixed.specs.Fixed.{limit, bias, value_of, held_of, pick_fix, within_limit, to_fixed, cell, fraction}
+use Rattle.std.specs.Prelude.{None}
+use Rattle.fixed.specs.declared.Fix.{Fix}
+use Rattle.fixed.specs.Fixed.{limit, bias, value_of, held_of, fix, within_limit, to_fixed, cell, fraction}
 
 -- ---- a held number's integer
 value_is : (n : ℕ) → value_of n ≡ n ⊖ bias
@@ -69,17 +70,18 @@ toward_zero true zero d = rw (zero-div d)
 toward_zero true (suc a) d = refl
 toward_zero false a d = refl
 
-limited : (s : Bool) (q : ℕ) (r : Bool) (n : ℕ) (c : Bool) → within_limit s q r ≡ Fixed n c → value_of n ≡ signed s q
+limited : (s : Bool) (q : ℕ) (r : Bool) (n : ℕ) (c : Bool) → within_limit s q r ≡ fix n c → value_of n ≡ signed s q
 limited s q r n c h = go (leb q limit) refl h
   where
-    go : (u : Bool) → leb q limit ≡ u → pick_fix u (Fixed (held_of s q) r) Refused ≡ Fixed n c → value_of n ≡ signed s q
+    go : (u : Bool) → leb q limit ≡ u → cond u (fix (held_of s q) r) None ≡ fix n c → value_of n ≡ signed s q
     go true p h =
         let w : q ≤ limit = leb-true q limit p in
-        let e : n ≡ held_of s q = cc in
+        let f : ◌≡◌ {A = Fix} (record { at = held_of s q; cut = r }) (record { at = n; cut = c }) = cc in
+        let e : n ≡ held_of s q = sym (ap (λ (x : Fix). x.at) f) in
         ap value_of e ∙ held_value s q (omega arith)
     go false p h = let z : ◌≡◌ {A = ℕ} 0 1 = cc in absurd (omega arith)
 
-pub fixed_value : (s : Bool) (m : ℕ) (e : ℤ) (n : ℕ) (c : Bool) → to_fixed (fin s m e) ≡ Fixed n c → value_of n ≡ quot_z (signed s (m * up e * 256)) (pos (down e))
+pub fixed_value : (s : Bool) (m : ℕ) (e : ℤ) (n : ℕ) (c : Bool) → to_fixed (fin s m e) ≡ fix n c → value_of n ≡ quot_z (signed s (m * up e * 256)) (pos (down e))
 unfolding to_fixed
 fixed_value s m e n c h = limited s (m * up e * 256 / down e) (not (eqb (m * up e * 256 % down e) 0)) n c h ∙ toward_zero s (m * up e * 256) (down e)
 

@@ -1,49 +1,47 @@
 -- Worked values of the rules, by computation. A float is given by its bits.
-use Rattle.std.specs.Prelude.{◌≡◌, refl, [], ◌∷◌, map, true, false, ℕ, pos, negsuc}
+use Rattle.std.specs.Prelude.{◌≡◌, refl, [], ◌∷◌, map, true, false, Option, None, ℕ, pos, negsuc}
 use Rattle.std.specs.Float.{binary32}
 use Rattle.std.specs.Float.Ieee.{of_bits}
 use Rattle.fixed.specs.declared.Fix.{Fix}
-use Rattle.fixed.specs.declared.Fix.TheVariants.{Fixed, Refused}
 use Rattle.fixed.specs.declared.Spot.{Spot}
-use Rattle.fixed.specs.declared.Spot.TheVariants.{At, Outside}
-use Rattle.fixed.specs.Fixed.{value_of, to_fixed, spot_of, cell, fraction}
+use Rattle.fixed.specs.Fixed.{fix, spot, value_of, to_fixed, spot_of, cell, fraction}
 use Rattle.fixed.specs.Points.{above, below, at}
 use Rattle.fixed.specs.Split.{split_quad, split_cubic}
 
 -- ---- the point rule
-fixed_bits : ℕ → Fix
+fixed_bits : ℕ → Option Fix
 fixed_bits b = to_fixed (of_bits binary32 b)
 
 -- 4096.0 passes and 4096.00390625 fails; the float before it passes, cut; −4096 passes and −4096.00390625 fails
 limits :
     map fixed_bits (0x4580_0000 ∷ 0x4580_0008 ∷ 0x4580_0007 ∷ 0xc580_0000 ∷ 0xc580_0008 ∷ [])
-    ≡ Fixed (above 1048576) false ∷ Refused ∷ Fixed (above 1048576) true ∷ Fixed (below 1048576) false ∷ Refused ∷ []
+    ≡ fix (above 1048576) false ∷ None ∷ fix (above 1048576) true ∷ fix (below 1048576) false ∷ None ∷ []
 unfolding fixed_bits of_bits to_fixed
 limits = refl
 
 -- −0.003 is cut to 0, −0.00390625 is −1; 1.5 is 384, 0.1 is 25, −0.1 is −25
 toward_zero :
     map fixed_bits (0xbb44_9ba6 ∷ 0xbb80_0000 ∷ 0x3fc0_0000 ∷ 0x3dcc_cccd ∷ 0xbdcc_cccd ∷ [])
-    ≡ Fixed (above 0) true ∷ Fixed (below 1) false ∷ Fixed (above 384) false ∷ Fixed (above 25) true ∷ Fixed (below 25) true ∷ []
+    ≡ fix (above 0) true ∷ fix (below 1) false ∷ fix (above 384) false ∷ fix (above 25) true ∷ fix (below 25) true ∷ []
 unfolding fixed_bits of_bits to_fixed
 toward_zero = refl
 
 -- 0, −0, the smallest and its negative
 zeros :
     map fixed_bits (0 ∷ 0x8000_0000 ∷ 1 ∷ 0x8000_0001 ∷ [])
-    ≡ Fixed (above 0) false ∷ Fixed (above 0) false ∷ Fixed (above 0) true ∷ Fixed (above 0) true ∷ []
+    ≡ fix (above 0) false ∷ fix (above 0) false ∷ fix (above 0) true ∷ fix (above 0) true ∷ []
 unfolding fixed_bits of_bits to_fixed
 zeros = refl
 
 -- the largest, the infinities, and a NaN with either sign
 none_of_these :
     map fixed_bits (0x7f7f_ffff ∷ 0x7f80_0000 ∷ 0xff80_0000 ∷ 0x7fc0_0000 ∷ 0xffc0_0000 ∷ [])
-    ≡ Refused ∷ Refused ∷ Refused ∷ Refused ∷ Refused ∷ []
+    ≡ None ∷ None ∷ None ∷ None ∷ None ∷ []
 unfolding fixed_bits of_bits to_fixed
 none_of_these = refl
 
 -- ---- both parts
-spot_bits : ℕ → ℕ → Spot
+spot_bits : ℕ → ℕ → Option Spot
 spot_bits a b = spot_of (record { x = of_bits binary32 a; y = of_bits binary32 b })
 
 -- (1.5, −0.00390625), (−0.003, 1.5), (0.1, −0.1), (0, infinity), (NaN, 0)
@@ -54,11 +52,11 @@ spots :
     ∷ spot_bits 0 0x7f80_0000
     ∷ spot_bits 0x7fc0_0000 0
     ∷ []
-    ≡ At (at (above 384) (below 1)) 0
-    ∷ At (at (above 0) (above 384)) 1
-    ∷ At (at (above 25) (below 25)) 2
-    ∷ Outside
-    ∷ Outside
+    ≡ spot (at (above 384) (below 1)) 0
+    ∷ spot (at (above 0) (above 384)) 1
+    ∷ spot (at (above 25) (below 25)) 2
+    ∷ None
+    ∷ None
     ∷ []
 unfolding spot_bits of_bits spot_of
 spots = refl

@@ -3,8 +3,7 @@
 #![tactic(auto)]
 
 ghost use Rattle.std.specs.Prelude.{◌≡◌, ◌+◌, ◌*◌, ◌/◌};
-ghost use Rattle.fixed.specs.Fixed.{to_fixed, spot_of, cell, fraction};
-ghost use Rattle.fixed.specs.Scaled.{fix_from};
+ghost use Rattle.fixed.specs.Fixed.{within_limit, to_fixed, spot_of, cell, fraction};
 ghost use Rattle.fixed.specs.Split.{mid, mid4, mid8, split_quad, split_cubic};
 
 use float::Cut;
@@ -16,69 +15,62 @@ pub const LIMIT: u32 = 1048576;
 // What is added to a number to hold it: 8192 pixels.
 pub const BIAS: u32 = 2097152;
 
-#[derive(Clone, Copy)]
+#[derive(Clone, Copy, Debug, PartialEq, Eq)]
 pub struct FixedPoint {
     pub x: u32,
     pub y: u32,
 }
 
 // A coordinate by the point rule. `cut` says whether something was cut off.
-#[derive(Clone, Copy)]
-pub enum Fix {
-    Fixed { at: u32, cut: bool },
-    Refused,
+#[derive(Clone, Copy, Debug, PartialEq, Eq)]
+pub struct Fix {
+    pub at: u32,
+    pub cut: bool,
 }
 
 // A point by the point rule. `cuts` says how many of its two parts were cut.
-#[derive(Clone, Copy)]
-pub enum Spot {
-    At { point: FixedPoint, cuts: u32 },
-    Outside,
+#[derive(Clone, Copy, Debug, PartialEq, Eq)]
+pub struct Spot {
+    pub point: FixedPoint,
+    pub cuts: u32,
 }
 
-// The number of a count of 256ths.
-fn fix_of(c: Cut) -> Fix
-    ensures { result ≡ fix_from c }
+// The number of a count of 256ths. None beyond the limit.
+fn fix_of(count: Cut) -> Option<Fix>
+    ensures { result ≡ within_limit count.below count.whole count.rest }
 {
-    match c {
-        Cut::Near { below, whole, rest } => {
-            if whole <= LIMIT {
-                if below {
-                    return Fix::Fixed {
-                        at: BIAS - whole,
-                        cut: rest,
-                    };
-                }
-                return Fix::Fixed {
-                    at: BIAS + whole,
-                    cut: rest,
-                };
-            }
-            Fix::Refused
-        }
-        Cut::Far => Fix::Refused,
+    if count.whole > LIMIT {
+        return None;
     }
+    let at = if count.below {
+        BIAS - count.whole
+    } else {
+        BIAS + count.whole
+    };
+    Some(Fix {
+        at,
+        cut: count.rest,
+    })
 }
 
-pub fn to_fixed(v: f32) -> Fix
+// None where the point rule refuses v.
+pub fn to_fixed(v: f32) -> Option<Fix>
     ensures { result ≡ to_fixed v }
 {
-    fix_of(float::cut_float(v * 256.0))
+    fix_of(float::cut_float(v * 256.0)?)
 }
 
-pub fn from_point(p: Point) -> Spot
+// None where the point rule refuses a part.
+#[tactic(auto, unfolding(crate::specs::Fixed::spot_from, crate::specs::Fixed::spot_of))]
+pub fn from_point(p: Point) -> Option<Spot>
     ensures { result ≡ spot_of p }
 {
-    match to_fixed(p.x) {
-        Fix::Fixed { at: x, cut: a } => match to_fixed(p.y) {
-            Fix::Fixed { at: y, cut: b } => Spot::At {
-                point: FixedPoint { x, y },
-                cuts: (a as u32) + (b as u32),
-            },
-            Fix::Refused => Spot::Outside,
-        },
-        Fix::Refused => Spot::Outside,
-    }
+    let x = to_fixed(p.x)?;
+    let y = to_fixed(p.y)?;
+    Some(Spot {
+        point: FixedPoint { x: x.at, y: y.at },
+        cuts: u32::from(x.cut) + u32::from(y.cut),
+    })
 }
 
 // The cell of a number, held with BIAS / 256 added.
@@ -95,28 +87,24 @@ pub fn fract(n: u32) -> u32
     n % 256
 }
 
-fn wide(n: u32) -> u64
-    ensures { result ≡ n }
-{
-    n as u64
-}
-
+// The means of a split, one function each and likewise for points: their numbers of points and their weights differ, and one function over arrays of
+// both would be a loop that hides the rule's sum.
 fn half(a: u32, b: u32) -> u32
     ensures { result ≡ (a + b) / 2 }
 {
-    ((wide(a) + wide(b)) / 2) as u32
+    ((u64::from(a) + u64::from(b)) / 2) as u32
 }
 
 fn quarter(a: u32, b: u32, c: u32) -> u32
     ensures { result ≡ (a + 2 * b + c) / 4 }
 {
-    ((wide(a) + 2 * wide(b) + wide(c)) / 4) as u32
+    ((u64::from(a) + 2 * u64::from(b) + u64::from(c)) / 4) as u32
 }
 
 fn eighth(a: u32, b: u32, c: u32, d: u32) -> u32
     ensures { result ≡ (a + 3 * b + 3 * c + d) / 8 }
 {
-    ((wide(a) + 3 * wide(b) + 3 * wide(c) + wide(d)) / 8) as u32
+    ((u64::from(a) + 3 * u64::from(b) + 3 * u64::from(c) + u64::from(d)) / 8) as u32
 }
 
 // The middle of a line.
@@ -149,7 +137,8 @@ fn mid_cubic(a: FixedPoint, b: FixedPoint, c: FixedPoint, d: FixedPoint) -> Fixe
     }
 }
 
-// Two quads for one, points 0 to 2 and 2 to 4; two cubics for one, points 0 to 3 and 3 to 6.
+// Two quads for one, points 0 to 2 and 2 to 4; two cubics for one, points 0 to 3 and 3 to 6. The splits are two functions: a split of
+// N points has 2N - 1, and no array's size can be computed from a const parameter.
 pub type TwoQuads = [FixedPoint; 5];
 
 pub type TwoCubics = [FixedPoint; 7];
@@ -158,9 +147,7 @@ pub type TwoCubics = [FixedPoint; 7];
 pub fn split_quad(base: [FixedPoint; 3]) -> TwoQuads
     ensures { result ≡ split_quad base }
 {
-    let p0 = base[0];
-    let p1 = base[1];
-    let p2 = base[2];
+    let [p0, p1, p2] = base;
     [
         p0,
         mid_line(p0, p1),
@@ -174,10 +161,7 @@ pub fn split_quad(base: [FixedPoint; 3]) -> TwoQuads
 pub fn split_cubic(base: [FixedPoint; 4]) -> TwoCubics
     ensures { result ≡ split_cubic base }
 {
-    let p0 = base[0];
-    let p1 = base[1];
-    let p2 = base[2];
-    let p3 = base[3];
+    let [p0, p1, p2, p3] = base;
     [
         p0,
         mid_line(p0, p1),

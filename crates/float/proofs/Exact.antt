@@ -15,8 +15,8 @@ use lib.Ieee.Fits.{core, round_is, down_pos}
 use lib.Ieee.Exact.{HasValue, round_exact}
 use borrow.Author.Tests.{ltb-true, ltb-false, le-ltb, eq-eqb, ne_eqb}
 use Rattle.float.specs.declared.Cut.{Cut}
-use Rattle.float.specs.declared.Cut.TheVariants.{Near, Far}
-use Rattle.float.specs.Cut.{zero_f, pick_cut, sized_of, cut_of}
+use Rattle.std.specs.Prelude.{Option, None}
+use Rattle.float.specs.Cut.{zero_f, near, sized_of, cut_of}
 use Rattle.float.proofs.Fields.{of_value}
 use Rattle.float.proofs.Fitting.{small_m, low_e, Below, below_zero}
 
@@ -103,15 +103,15 @@ value_below (fin t m e) s num den D v =
     below_zero t m e ∙ ap (λ (b : Bool). Below b (m * up e)) v.0 ∙ ap (λ (b : Bool). cond s (not b) false) (same_zero (m * up e) (down e) num den (down_pos e) D v.1)
 
 -- ---- the cut of a number that is given as a fraction
-abbrev pub Cutting : Bool → ℕ → ℕ → Cut
-Cutting b num den = pick_cut (ltb (num / den) (2 ^ 24)) (Near b (num / den) (not (eqb (num % den) 0))) Far
+abbrev pub Cutting : Bool → ℕ → ℕ → Option Cut
+Cutting b num den = cond (ltb (num / den) (2 ^ 24)) (near b (num / den) (not (eqb (num % den) 0))) None
 
 pub cut_of_value : (w : Float) (s : Bool) (num den : ℕ) → 0 < den → HasValue w s num den → cut_of w ≡ Cutting (Below s num) num den
 cut_of_value w s num den D v = of_value w s (lt w zero_f) num den D v ∙ ap (λ (b : Bool). Cutting b num den) (value_below w s num den D v)
 
 beyond : (s b : Bool) (num den : ℕ) → 2 ^ 128 ≤ num / den → cut_of (inf s) ≡ Cutting b num den
 unfolding sized_of
-beyond s b num den h = sym (ap (λ (u : Bool). pick_cut u (Near b (num / den) (not (eqb (num % den) 0))) Far) (le-ltb (num / den) (2 ^ 24) (le_trans (lit≤ tt) h)))
+beyond s b num den h = sym (ap (λ (u : Bool). cond u (near b (num / den) (not (eqb (num % den) 0))) None) (le-ltb (num / den) (2 ^ 24) (le_trans (lit≤ tt) h)))
 
 scaled_zero : (a : ℕ) → eqb (a * 256) 0 ≡ eqb a 0
 scaled_zero a = same_zero (a * 256) 256 a 1 (lit≤ tt) (lit≤ tt) (mul-one (a * 256))

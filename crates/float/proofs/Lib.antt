@@ -6,3 +6,4 @@ pub mod Rounding
 pub mod Numbers
 pub mod Values
 pub mod Exact
+pub mod Library

@@ -9,8 +9,9 @@ use lib.IntN.{ℤ, pos, neg_ℤ, neg_ℤ-neg_ℤ}
 use lib.Ieee.{Float, nan, inf, fin, up, down, lt, neg}
 use lib.Ieee.Fits.{down_pos}
 use borrow.Author.Tests.{ltb-true, ltb-false, eqb-true, eqb-false, eq-eqb}
-use Rattle.float.specs.declared.Cut.TheVariants.{Near, Far}
-use Rattle.float.specs.Cut.{zero_f, pick_cut, sized_of, cut_of}
+use Rattle.std.specs.Prelude.{None}
+use Rattle.float.specs.declared.Cut.{Cut}
+use Rattle.float.specs.Cut.{zero_f, near, sized_of, cut_of}
 use Rattle.float.specs.Round.{floor_z, ceil_z}
 use Rattle.float.proofs.Fitting.{below_zero}
 use Rattle.float.proofs.Rounding.{up_whole, up_more}
@@ -22,21 +23,22 @@ pub record Cuts (s : Bool) (m : ℕ) (e : ℤ) (b : Bool) (n : ℕ) (r : Bool) :
   pub rest : not (eqb (m * up e % down e) 0) ≡ r
   pub small : n < 2 ^ 24
 
-pub cuts : (s : Bool) (m : ℕ) (e : ℤ) (b : Bool) (n : ℕ) (r : Bool) → cut_of (fin s m e) ≡ Near b n r → Cuts s m e b n r
+pub cuts : (s : Bool) (m : ℕ) (e : ℤ) (b : Bool) (n : ℕ) (r : Bool) → cut_of (fin s m e) ≡ near b n r → Cuts s m e b n r
 unfolding sized_of
 cuts s m e b n r = go (ltb (m * up e / down e) (2 ^ 24)) refl
   where
-    go : (u : Bool) → ltb (m * up e / down e) (2 ^ 24) ≡ u → pick_cut u (Near (lt (fin s m e) zero_f) (m * up e / down e) (not (eqb (m * up e % down e) 0))) Far ≡ Near b n r → Cuts s m e b n r
+    go : (u : Bool) → ltb (m * up e / down e) (2 ^ 24) ≡ u → cond u (near (lt (fin s m e) zero_f) (m * up e / down e) (not (eqb (m * up e % down e) 0))) None ≡ near b n r → Cuts s m e b n r
     go true h p =
-        let q : m * up e / down e ≡ n = cc in
-        record { below = cc; size = q; rest = cc; small = omega (arith, ltb-true (m * up e / down e) (2 ^ 24) h) }
+        let q : ◌≡◌ {A = Cut} (record { below = lt (fin s m e) zero_f; whole = m * up e / down e; rest = not (eqb (m * up e % down e) 0) }) (record { below = b; whole = n; rest = r }) = cc in
+        let size : m * up e / down e ≡ n = ap (λ (cut : Cut). cut.whole) q in
+        record { below = ap (λ (cut : Cut). cut.below) q; size = size; rest = ap (λ (cut : Cut). cut.rest) q; small = omega (arith, size, ltb-true (m * up e / down e) (2 ^ 24) h) }
     go false h p = absurd (let z : ◌≡◌ {A = ℕ} 0 1 = cc in omega arith)
 
-pub beyond : (s : Bool) (m : ℕ) (e : ℤ) → cut_of (fin s m e) ≡ Far → 2 ^ 24 ≤ m * up e / down e
+pub beyond : (s : Bool) (m : ℕ) (e : ℤ) → cut_of (fin s m e) ≡ None → 2 ^ 24 ≤ m * up e / down e
 unfolding sized_of
 beyond s m e = go (ltb (m * up e / down e) (2 ^ 24)) refl
   where
-    go : (u : Bool) → ltb (m * up e / down e) (2 ^ 24) ≡ u → pick_cut u (Near (lt (fin s m e) zero_f) (m * up e / down e) (not (eqb (m * up e % down e) 0))) Far ≡ Far → 2 ^ 24 ≤ m * up e / down e
+    go : (u : Bool) → ltb (m * up e / down e) (2 ^ 24) ≡ u → cond u (near (lt (fin s m e) zero_f) (m * up e / down e) (not (eqb (m * up e % down e) 0))) None ≡ None → 2 ^ 24 ≤ m * up e / down e
     go true h p = absurd (let z : ◌≡◌ {A = ℕ} 0 1 = cc in omega arith)
     go false h p = ltb-false _ _ h
 
@@ -65,7 +67,7 @@ signed a d false n k h p q w =
 abbrev pub Around : Float → Bool → ℕ → ℕ → Type 0
 Around v b n k = (floor_z v ≡ cond b (neg_ℤ (pos k)) (pos n)) × (ceil_z v ≡ cond b (neg_ℤ (pos n)) (pos k))
 
-pub around_cut : (v : Float) (b : Bool) (n : ℕ) (r : Bool) → cut_of v ≡ Near b n r → Around v b n (n + cond r 1 0)
+pub around_cut : (v : Float) (b : Bool) (n : ℕ) (r : Bool) → cut_of v ≡ near b n r → Around v b n (n + cond r 1 0)
 unfolding sized_of floor_z ceil_z neg
 around_cut nan b n r p = absurd (let z : ◌≡◌ {A = ℕ} 0 1 = cc in omega arith)
 around_cut (inf s) b n r p = absurd (let z : ◌≡◌ {A = ℕ} 0 1 = cc in omega arith)

@@ -1,11 +1,10 @@
 -- Worked values of the rules, by computation. A float is given by its bits.
-use Rattle.std.specs.Prelude.{◌≡◌, refl, List, [], ◌∷◌, map, true, false, ℕ, ℤ, pos, negsuc}
+use Rattle.std.specs.Prelude.{◌≡◌, refl, List, [], ◌∷◌, map, true, false, Option, None, ℕ, ℤ, pos, negsuc}
 use Rattle.std.specs.Float.{binary32}
 use Rattle.std.specs.Float.Ieee.{of_bits, to_bits, lt}
 use Rattle.float.specs.declared.Cut.{Cut}
-use Rattle.float.specs.declared.Cut.TheVariants.{Near, Far}
 use Rattle.float.specs.Bits.{float_of}
-use Rattle.float.specs.Cut.{sized_of, cut_of}
+use Rattle.float.specs.Cut.{near, sized_of, cut_of}
 use Rattle.float.specs.Round.{floor_z, ceil_z, floor_of, ceil_of}
 
 -- the bytes 00 00 80 3F are 1.0
@@ -17,12 +16,12 @@ one_bytes = refl
 inputs : List ℕ
 inputs = 0x3f00_0000 ∷ 0xbf00_0000 ∷ 0x8000_0000 ∷ 0x4050_0000 ∷ 0xc050_0000 ∷ 0x4500_0800 ∷ 1 ∷ 0x7f7f_ffff ∷ 0x7f80_0000 ∷ 0x7fc0_0000 ∷ []
 
-cut_bits : ℕ → Cut
+cut_bits : ℕ → Option Cut
 cut_bits b = cut_of (of_bits binary32 b)
 
 cut_table :
     map cut_bits inputs
-    ≡ (Near false 0 true ∷ Near true 0 true ∷ Near false 0 false ∷ Near false 3 true ∷ Near true 3 true ∷ Near false 2048 true ∷ Near false 0 true ∷ Far ∷ Far ∷ Far ∷ [])
+    ≡ (near false 0 true ∷ near true 0 true ∷ near false 0 false ∷ near false 3 true ∷ near true 3 true ∷ near false 2048 true ∷ near false 0 true ∷ None ∷ None ∷ None ∷ [])
 unfolding inputs cut_bits of_bits lt sized_of
 cut_table = refl
 

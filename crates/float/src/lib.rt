@@ -6,30 +6,24 @@ ghost use Rattle.std.specs.Prelude.{◌≡◌};
 ghost use Rattle.std.specs.Float.{binary32};
 ghost use Rattle.std.specs.Float.Ieee.{of_bits};
 ghost use Rattle.std.specs.Float.Ieee.Scale.{finite};
-ghost use Rattle.float.specs.Bits.{word_of, float_of};
+ghost use Rattle.float.specs.Bits.{float_of};
 ghost use Rattle.float.specs.Cut.{sized_of, cut_of};
 ghost use Rattle.float.specs.Round.{floor_of, ceil_of};
 
 // A float cut toward zero: whether it is below zero, its whole part, and whether anything was cut off.
-#[derive(Clone, Copy)]
-pub enum Cut {
-    Near { below: bool, whole: u32, rest: bool },
-    Far,
+#[derive(Clone, Copy, Debug, PartialEq, Eq)]
+pub struct Cut {
+    pub below: bool,
+    pub whole: u32,
+    pub rest: bool,
 }
 
-// The number of four bytes, the first one lowest.
-fn word_of(a: u8, b: u8, c: u8, d: u8) -> u32
-    ensures { result ≡ word_of a b c d }
-{
-    (a as u32) + (b as u32) * 0x100 + (c as u32) * 0x1_0000 + (d as u32) * 0x100_0000
-}
-
-// The float of a bit pattern. `f32::from_bits` is undefined at a NaN's, so a NaN is made by a division.
+// The float of a bit pattern. `f32::from_bits` and `from_le_bytes` ask that it is no NaN's.
 fn float_of(n: u32) -> f32
     ensures { result ≡ of_bits binary32 n }
 {
     if n % 0x8000_0000 > 0x7f80_0000 {
-        0.0 / 0.0
+        f32::NAN
     } else {
         f32::from_bits(n)
     }
@@ -39,78 +33,63 @@ fn float_of(n: u32) -> f32
 pub fn from_bytes(a: u8, b: u8, c: u8, d: u8) -> f32
     ensures { result ≡ float_of a b c d }
 {
-    float_of(word_of(a, b, c, d))
+    float_of(u32::from_le_bytes([a, b, c, d]))
 }
 
 // Neither a NaN nor an infinity.
 pub fn is_finite(x: f32) -> bool
     ensures { result ≡ finite x }
 {
-    let most = 1.0 / 0.0;
-    if x < most {
-        return -most < x;
-    }
-    false
+    x.is_finite()
 }
 
 // The size of w, cut. Where the exponent's field x is from 1 to 254 the size is (t + 2^23) / 2^(150 - x).
-fn sized(w: f32, below: bool) -> Cut
+fn sized(w: f32, below: bool) -> Option<Cut>
     ensures { result ≡ sized_of w below }
 {
     if w != w {
-        return Cut::Far;
+        return None;
     }
     let b = f32::to_bits(w) % 0x8000_0000;
     let x = b / 0x80_0000;
     let t = b % 0x80_0000;
     if x > 150 {
-        return Cut::Far;
+        return None;
     }
     if x < 127 {
-        return Cut::Near {
+        return Some(Cut {
             below,
             whole: 0,
             rest: b != 0,
-        };
+        });
     }
     let d = t + 0x80_0000;
     let k = 150 - x;
     let p = 1 << k;
-    Cut::Near {
+    Some(Cut {
         below,
         whole: d / p,
         rest: d % p != 0,
-    }
+    })
 }
 
-// w cut toward zero: Far from 2^24 on, and for what is not finite.
-pub fn cut_float(w: f32) -> Cut
+// w cut toward zero: None from 2^24 on, and for what is not finite.
+pub fn cut_float(w: f32) -> Option<Cut>
     ensures { result ≡ cut_of w }
 {
     sized(w, w < 0.0)
 }
 
-// v rounded down to a whole number. What is far is whole already, or is not finite.
+// v rounded down to a whole number.
 pub fn floor(v: f32) -> f32
     ensures { result ≡ floor_of v }
 {
-    match cut_float(v) {
-        Cut::Near { below, whole, rest } => {
-            if rest {
-                if below {
-                    return -((whole + 1) as f32);
-                }
-                return whole as f32;
-            }
-            v
-        }
-        Cut::Far => v,
-    }
+    v.floor()
 }
 
 // v rounded up to a whole number.
 pub fn ceil(v: f32) -> f32
     ensures { result ≡ ceil_of v }
 {
-    -floor(-v)
+    v.ceil()
 }

@@ -1,5 +1,5 @@
 -- docs/RULES.md, "Bounds and placement": where the mask of a box lies.
-use Rattle.std.specs.Prelude.{ℕ, ◌*◌, ◌^◌, Bool, true, false, ◌&&◌, ltb, ℤ, pos, negsuc, ◌+ℤ◌, ◌-ℤ◌, Float}
+use Rattle.std.specs.Prelude.{ℕ, ◌*◌, ◌^◌, Bool, false, cond, Option, None, Some, ◌&&◌, ltb, ℤ, pos, negsuc, ◌+ℤ◌, ◌-ℤ◌, Float}
 use Rattle.std.specs.Float.{nan, inf, fin}
 use Rattle.std.specs.Float.Ieee.{up, down, neg}
 use Rattle.float.specs.Round.{floor_z, ceil_z, floor_of}
@@ -9,7 +9,6 @@ use Rattle.geometry.specs.declared.Origin.{Origin}
 use Rattle.geometry.specs.declared.Origin.TheVariants.{TopLeft, BottomLeft}
 use Rattle.geometry.specs.declared.Placement.{Placement}
 use Rattle.geometry.specs.declared.Placed.{Placed}
-use Rattle.geometry.specs.declared.Placed.TheVariants.{At, Outside}
 use Rattle.geometry.specs.Affine.{point_of, shifted}
 
 -- a side: from the minimum rounded down to the maximum rounded up, 0 where the maximum lies below
@@ -47,14 +46,14 @@ reaches (fin s m e) = ltb (m * up e) (2 ^ 23 * down e)
 abbrev pub within : Point → Bool
 within p = reaches p.x && reaches p.y
 
-abbrev pub pick_placed : Bool → Placed → Placed → Placed
-pick_placed true a b = a
-pick_placed false a b = b
+-- the new offset with its placement
+abbrev pub placed : Point → Placement → Option Placed
+placed f p = Some (record { offset = f; placement = p })
 
 -- of the minimum and the maximum with the offset added
-abbrev pub placed_between : Origin → Point → Point → Placed
-placed_between o a b = pick_placed (within a && within b) (At (negated a) (placement_of o a b)) Outside
+abbrev pub placed_between : Origin → Point → Point → Option Placed
+placed_between o a b = cond (within a && within b) (placed (negated a) (placement_of o a b)) None
 
 -- the box is moved by the offset first
-abbrev pub placed_of : Origin → Point → Bounds → Placed
+abbrev pub placed_of : Origin → Point → Bounds → Option Placed
 placed_of o f b = placed_between o (shifted f b.min) (shifted f b.max)

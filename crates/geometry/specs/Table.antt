@@ -1,5 +1,5 @@
 -- Worked values of the rules, by computation. A float is given by its bits.
-use Rattle.std.specs.Prelude.{◌≡◌, refl, Bool, true, false, List, [], ◌∷◌, ℕ, ℤ, pos, negsuc}
+use Rattle.std.specs.Prelude.{◌≡◌, refl, Bool, true, false, Option, None, Some, List, [], ◌∷◌, ℕ, ℤ, pos, negsuc}
 use Rattle.std.specs.Float.{binary32}
 use Rattle.std.specs.Float.Ieee.{of_bits, to_bits, add, mul, lt, le, neg}
 use Rattle.float.specs.Round.{floor_z, ceil_z, floor_of}
@@ -8,7 +8,6 @@ use Rattle.geometry.specs.declared.Transform.{Transform}
 use Rattle.geometry.specs.declared.Bounds.{Bounds}
 use Rattle.geometry.specs.declared.Origin.TheVariants.{TopLeft, BottomLeft}
 use Rattle.geometry.specs.declared.Placed.{Placed}
-use Rattle.geometry.specs.declared.Placed.TheVariants.{At, Outside}
 use Rattle.geometry.specs.Affine.{shifted, transform_of, identity_of, translation_of, scale_of, combine_of, translated_of, moved}
 use Rattle.geometry.specs.Bits.{float, at}
 use Rattle.geometry.specs.Box.{bounds_of, box_from, box_of, empty_of, inside_of}
@@ -164,9 +163,9 @@ data Answer : Type 0 where
   at_answer : ℕ → ℕ → ℤ → ℤ → ℕ → ℕ → Answer
   outside : Answer
 
-answer : Placed → Answer
-answer (At f p) = at_answer (to_bits binary32 f.x) (to_bits binary32 f.y) p.left p.top p.width p.height
-answer Outside = outside
+answer : Option Placed → Answer
+answer (Some w) = at_answer (to_bits binary32 w.offset.x) (to_bits binary32 w.offset.y) w.placement.left w.placement.top w.placement.width w.placement.height
+answer None = outside
 
 -- K11: box (0.5, 0.25) to (3.25, 2), offset (-1, 1), bottom-left: 4×2, left -1, top 3
 k11 : answer (placed_of BottomLeft (at 0xbf80_0000 0x3f80_0000) (bounds_of (at 0x3f00_0000 0x3e80_0000) (at 0x4050_0000 0x4000_0000))) ≡ at_answer 0x3f80_0000 0xbf80_0000 (negsuc 0) (pos 3) 4 2

@@ -8,16 +8,14 @@ ghost use Rattle.geometry.specs.Box.{lower, upper, bounds_of, box_at, around, em
 ghost use Rattle.geometry.specs.Placing.{placed_of};
 ghost use Rattle.geometry.specs.Held.{own, raised, held_around, held_span};
 
-use float::Cut;
-
-#[derive(Clone, Copy)]
+#[derive(Clone, Copy, Debug, PartialEq)]
 pub struct Point {
     pub x: f32,
     pub y: f32,
 }
 
 // Sends (x, y) to (x·xx + y·yx) + tx, (x·xy + y·yy) + ty: the fields x and y are tx and ty.
-#[derive(Clone, Copy)]
+#[derive(Clone, Copy, Debug, PartialEq)]
 pub struct Transform {
     pub xx: f32,
     pub xy: f32,
@@ -34,7 +32,7 @@ impl Point {
         Point { x, y }
     }
 
-    // The other's parts are added behind its own.
+    // The other's parts are added behind its own. A method and no `impl Add`, since the theorem `point_plus` of claims speaks of it.
     pub fn plus(self, other: Point) -> Point
         ensures { result ≡ shifted other self }
     {
@@ -112,6 +110,7 @@ impl Transform {
         }
     }
 
+    // `combine` by the name that the C face and the docs give it.
     pub fn then(self, other: Transform) -> Transform
         ensures { result ≡ combine_of self other }
     {
@@ -169,13 +168,14 @@ impl Transform {
     }
 }
 
-#[derive(Clone, Copy)]
+#[derive(Clone, Copy, Debug, PartialEq)]
 pub struct Bounds {
     pub min: Point,
     pub max: Point,
 }
 
-// The lower of two, the first where neither is.
+// The lower of two, the first where neither is. It and `upper_of` stay two: `f32::min` and `max` drop a NaN, and say not which of two zeros they give;
+// and one function of both would take the comparison as an argument, which is no plainer than `b < a`.
 fn lower_of(a: f32, b: f32) -> f32
     ensures { result ≡ lower a b }
 {
@@ -221,12 +221,7 @@ impl Bounds {
     pub fn is_empty(self) -> bool
         ensures { result ≡ empty_of self }
     {
-        let min = self.min;
-        let max = self.max;
-        if min.x >= max.x {
-            return true;
-        }
-        min.y >= max.y
+        self.min.x >= self.max.x || self.min.y >= self.max.y
     }
 
     pub fn width(self) -> f32
@@ -244,28 +239,19 @@ impl Bounds {
     pub fn contains(self, p: Point) -> bool
         ensures { result ≡ inside_of self p }
     {
-        let min = self.min;
-        let max = self.max;
-        if p.x > min.x {
-            if p.x < max.x {
-                if p.y > min.y {
-                    return p.y < max.y;
-                }
-            }
-        }
-        false
+        self.min.x < p.x && p.x < self.max.x && self.min.y < p.y && p.y < self.max.y
     }
 }
 
 // Where (0, 0) lies in the picture.
-#[derive(Clone, Copy)]
+#[derive(Clone, Copy, Debug, PartialEq, Eq)]
 pub enum Origin {
     TopLeft,
     BottomLeft,
 }
 
 // Where a mask lies, and its size in pixels.
-#[derive(Clone, Copy)]
+#[derive(Clone, Copy, Debug, PartialEq, Eq)]
 pub struct Placement {
     pub left: i32,
     pub top: i32,
@@ -273,85 +259,72 @@ pub struct Placement {
     pub height: u32,
 }
 
-// The offset that brings a box to the mask, and the mask; or that the box lies too far out.
-#[derive(Clone, Copy)]
-pub enum Placed {
-    At { offset: Point, placement: Placement },
-    Outside,
+// The offset that brings a box to the mask, and the mask.
+#[derive(Clone, Copy, Debug, PartialEq)]
+pub struct Placed {
+    pub offset: Point,
+    pub placement: Placement,
 }
 
 // A whole number is held with MID added, so that it has no sign.
 const MID: u32 = 0x100_0000;
 
-// From here on a box is Outside.
+// From here on a box lies too far out.
 const REACH: u32 = 0x80_0000;
 
 // The whole numbers at or below a float and at or above it.
-#[derive(Clone, Copy)]
-enum Around {
-    Near { down: u32, up: u32 },
-    Far,
+#[derive(Clone, Copy, Debug, PartialEq, Eq)]
+struct Around {
+    down: u32,
+    up: u32,
 }
 
 // One side of a mask: where it starts and how long it is.
-#[derive(Clone, Copy)]
-enum Span {
-    Over { from: u32, size: u32 },
-    Beyond,
+#[derive(Clone, Copy, Debug, PartialEq, Eq)]
+struct Span {
+    from: u32,
+    size: u32,
 }
 
-fn around_float(v: f32) -> Around
+// None where v is too far out, or no number.
+fn around_float(v: f32) -> Option<Around>
     ensures { result ≡ held_around v }
 {
-    match float::cut_float(v) {
-        Cut::Near { below, whole, rest } => {
-            if whole >= REACH {
-                return Around::Far;
-            }
-            let more = whole + (rest as u32);
-            if below {
-                return Around::Near {
-                    down: MID - more,
-                    up: MID - whole,
-                };
-            }
-            Around::Near {
-                down: MID + whole,
-                up: MID + more,
-            }
-        }
-        Cut::Far => Around::Far,
+    let cut = float::cut_float(v)?;
+    if cut.whole >= REACH {
+        return None;
     }
-}
-
-fn gap(up: u32, down: u32) -> u32
-    ensures { result ≡ up - down }
-{
-    if down < up { up - down } else { 0 }
+    let more = cut.whole + u32::from(cut.rest);
+    if cut.below {
+        return Some(Around {
+            down: MID - more,
+            up: MID - cut.whole,
+        });
+    }
+    Some(Around {
+        down: MID + cut.whole,
+        up: MID + more,
+    })
 }
 
 // From a rounded down to b rounded up.
-fn span_of(a: f32, b: f32) -> Span
+fn span_of(a: f32, b: f32) -> Option<Span>
     ensures { result ≡ held_span a b }
 {
-    match around_float(a) {
-        Around::Near { down, up: _ } => match around_float(b) {
-            Around::Near { down: _, up } => Span::Over {
-                from: down,
-                size: gap(up, down),
-            },
-            Around::Far => Span::Beyond,
-        },
-        Around::Far => Span::Beyond,
-    }
+    let first = around_float(a)?;
+    let last = around_float(b)?;
+    Some(Span {
+        from: first.down,
+        size: last.up.saturating_sub(first.down),
+    })
 }
 
-// The number that n holds.
+// The number that n holds: a cast, since `i32` has no `From<u32>`.
 fn own_value(n: u32) -> i32
     requires { n ≤ 2 ^ 30 }
     ensures { result ≡ own n }
 {
-    (n as i32) - 0x100_0000
+    n as i32 - MID as i32
 }
 
 fn top_of(origin: Origin, from: u32, height: u32) -> u32
@@ -365,37 +338,25 @@ fn top_of(origin: Origin, from: u32, height: u32) -> u32
 }
 
 impl Placement {
-    // Given an origin, an offset and a box, the new offset and the placement of a tightly bounded mask.
-    pub fn compute(origin: Origin, offset: Point, bounds: Bounds) -> Placed
+    // Given an origin, an offset and a box, the new offset and the placement of a tightly bounded mask. None where the box lies too far out.
+    pub fn compute(origin: Origin, offset: Point, bounds: Bounds) -> Option<Placed>
         ensures { result ≡ placed_of origin offset bounds }
     {
-        let low = bounds.min;
-        let high = bounds.max;
-        let min = low.plus(offset);
-        let max = high.plus(offset);
-        match span_of(min.x, max.x) {
-            Span::Over {
-                from: left,
-                size: width,
-            } => match span_of(min.y, max.y) {
-                Span::Over {
-                    from: top,
-                    size: height,
-                } => Placed::At {
-                    offset: Point {
-                        x: -float::floor(min.x),
-                        y: -float::floor(min.y),
-                    },
-                    placement: Placement {
-                        left: own_value(left),
-                        top: own_value(top_of(origin, top, height)),
-                        width,
-                        height,
-                    },
-                },
-                Span::Beyond => Placed::Outside,
+        let min = bounds.min.plus(offset);
+        let max = bounds.max.plus(offset);
+        let across = span_of(min.x, max.x)?;
+        let upright = span_of(min.y, max.y)?;
+        Some(Placed {
+            offset: Point {
+                x: -float::floor(min.x),
+                y: -float::floor(min.y),
             },
-            Span::Beyond => Placed::Outside,
-        }
+            placement: Placement {
+                left: own_value(across.from),
+                top: own_value(top_of(origin, upright.from, upright.size)),
+                width: across.size,
+                height: upright.size,
+            },
+        })
     }
 }

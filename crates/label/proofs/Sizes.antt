@@ -1,72 +1,21 @@
--- Checks 1 to 5, one law for each test; and what is known where none refuses.
+-- What is known where none of checks 1 to 7 refuses.
 use Prim.Native.Nat.{ℕ, ◌+◌, ◌*◌, ◌-◌, ◌≤◌, ◌<◌}
-use mathlib.Core.Path.{◌≡◌, refl}
+use mathlib.Core.Path.{◌≡◌, refl, sym}
 use mathlib.Core.Bool.{Bool, true, false, not, cond, ◌&&◌, ◌||◌}
 use native.Mathlib.Omega.{arith}
-use native.Mathlib.Nat.{mul-le-mul}
 use lib.Dec.{ltb}
 use borrow.Author.Tests.{lt-ltb, le-ltb, ltb-false}
 use Rattle.path.specs.declared.Refusal.{Refusal}
 use Rattle.path.specs.declared.Refusal.TheVariants.{Size, Band, Pitch, Mask, Workspace, NotFinite, Long}
-use Rattle.path.specs.declared.Verdict.{Verdict}
-use Rattle.path.specs.declared.Verdict.TheVariants.{Fine, Faulty}
+use Rattle.std.specs.Prelude.{⊤, Result, Ok, Err}
 use Rattle.path.specs.Inputs.{most_bytes, finite_point, finite_transform, inputs_of}
+use Rattle.path.proofs.Telling.{ok_not_err}
 use Rattle.label.specs.declared.Label.{Label}
 use Rattle.label.specs.Checks.{most_pixels, most_pitch, rows, sizes_of, and_then, checked_of}
 use Rattle.label.specs.Inking.{Sized, Lent}
 
--- a product that fits
-pub few_bytes : (n pitch : ℕ) → n ≤ 65536 → pitch ≤ 65536 → pitch * (n - 1) ≤ 65536 * 65536
-few_bytes n pitch h g = mul-le-mul {m₂ = 65536} g (omega arith)
-
-module _ (l : Label) (mask words : ℕ) where
-  -- what 4 asks
-  abbrev short : Bool
-  short = ltb 0 (rows l) && ltb mask (l.pitch * (rows l - 1) + l.width)
-
-  pub too_wide : most_pixels < l.width → Faulty Size ≡ sizes_of l mask words
-  unfolding sizes_of
-  too_wide h = rw (lt-ltb _ _ h)
-
-  pub too_high : l.width ≤ most_pixels → most_pixels < l.height → Faulty Size ≡ sizes_of l mask words
-  unfolding sizes_of
-  too_high h g = rw (le-ltb _ _ h, lt-ltb _ _ g)
-
-  module _ (a : l.width ≤ most_pixels) (b : l.height ≤ most_pixels) where
-    pub turned_band : l.end < l.first → Faulty Band ≡ sizes_of l mask words
-    unfolding sizes_of
-    turned_band h = rw (le-ltb _ _ a, le-ltb _ _ b, lt-ltb _ _ h)
-
-    pub band_below : l.first ≤ l.end → l.height < l.end → Faulty Band ≡ sizes_of l mask words
-    unfolding sizes_of
-    band_below h g = rw (le-ltb _ _ a, le-ltb _ _ b, le-ltb _ _ h, lt-ltb _ _ g)
-
-    module _ (c : l.first ≤ l.end) (d : l.end ≤ l.height) where
-      pub low_pitch : l.pitch < l.width → Faulty Pitch ≡ sizes_of l mask words
-      unfolding sizes_of
-      low_pitch h = rw (le-ltb _ _ a, le-ltb _ _ b, le-ltb _ _ c, le-ltb _ _ d, lt-ltb _ _ h)
-
-      pub high_pitch : l.width ≤ l.pitch → most_pitch < l.pitch → Faulty Pitch ≡ sizes_of l mask words
-      unfolding sizes_of
-      high_pitch h g = rw (le-ltb _ _ a, le-ltb _ _ b, le-ltb _ _ c, le-ltb _ _ d, le-ltb _ _ h, lt-ltb _ _ g)
-
-      module _ (e : l.width ≤ l.pitch) (f : l.pitch ≤ most_pitch) where
-        pub short_mask : short ≡ true → Faulty Mask ≡ sizes_of l mask words
-        unfolding sizes_of
-        short_mask h = rw (le-ltb _ _ a, le-ltb _ _ b, le-ltb _ _ c, le-ltb _ _ d, le-ltb _ _ e, le-ltb _ _ f, h)
-
-        pub few_words : short ≡ false → words < rows l → Faulty Workspace ≡ sizes_of l mask words
-        unfolding sizes_of
-        few_words h g = rw (le-ltb _ _ a, le-ltb _ _ b, le-ltb _ _ c, le-ltb _ _ d, le-ltb _ _ e, le-ltb _ _ f, h, lt-ltb _ _ g)
-
-        pub all_fit : short ≡ false → rows l ≤ words → Fine ≡ sizes_of l mask words
-        unfolding sizes_of
-        all_fit h g = rw (le-ltb _ _ a, le-ltb _ _ b, le-ltb _ _ c, le-ltb _ _ d, le-ltb _ _ e, le-ltb _ _ f, h, le-ltb _ _ g)
-
--- ---- where none refuses
-
-passed : (b : Bool) (w : Refusal) (v : Verdict) → cond b (Faulty w) v ≡ Fine → (b ≡ false) × (v ≡ Fine)
-passed true w v e = absurd (let z : ◌≡◌ {A = ℕ} 0 1 = cc in omega arith)
+passed : (b : Bool) (w : Refusal) (v : Result ⊤ Refusal) → cond b (Err w) v ≡ Ok tt → (b ≡ false) × (v ≡ Ok tt)
+passed true w v e = ok_not_err (sym e)
 passed false w v e = (refl, e)
 
 neither : (a b : Bool) → (a || b) ≡ false → (a ≡ false) × (b ≡ false)
@@ -81,7 +30,7 @@ pub record Fitting (l : Label) (mask words : ℕ) : Type 0 where
   pub sized : Sized l
   pub lent : Lent l mask words
 
-sizes_fit : (l : Label) (mask words : ℕ) → sizes_of l mask words ≡ Fine → Fitting l mask words
+sizes_fit : (l : Label) (mask words : ℕ) → sizes_of l mask words ≡ Ok tt → Fitting l mask words
 unfolding sizes_of
 sizes_fit l mask words e =
     let p1 = passed _ Size _ e in
@@ -104,18 +53,18 @@ sizes_fit l mask words e =
       lent = record { lines = long_enough_is l mask p4.0; heads = ltb-false _ _ p5.0 };
     }
 
-both : (v w : Verdict) → and_then v w ≡ Fine → (v ≡ Fine) × (w ≡ Fine)
-both Fine w e = (refl, e)
-both (Faulty r) w e = absurd (let z : ◌≡◌ {A = ℕ} 0 1 = cc in omega arith)
+both : (v w : Result ⊤ Refusal) → and_then v w ≡ Ok tt → (v ≡ Ok tt) × (w ≡ Ok tt)
+both (Ok u) w e = (refl, e)
+both (Err r) w e = ok_not_err (sym e)
 
-list_fits : (l : Label) (list : ℕ) → inputs_of l.transform l.offset list ≡ Fine → list ≤ most_bytes
+list_fits : (l : Label) (list : ℕ) → inputs_of l.transform l.offset list ≡ Ok tt → list ≤ most_bytes
 unfolding inputs_of
 list_fits l list e =
-    let p = passed (not (finite_transform l.transform && finite_point l.offset)) NotFinite (cond (ltb most_bytes list) (Faulty Long) Fine) e in
-    ltb-false _ _ (passed (ltb most_bytes list) Long Fine p.1).0
+    let p = passed (not (finite_transform l.transform && finite_point l.offset)) NotFinite (cond (ltb most_bytes list) (Err Long) (Ok tt)) e in
+    ltb-false _ _ (passed (ltb most_bytes list) Long (Ok tt) p.1).0
 
-module _ (l : Label) (list mask words : ℕ) (e : checked_of l list mask words ≡ Fine) where
-  halves : (sizes_of l mask words ≡ Fine) × (inputs_of l.transform l.offset list ≡ Fine)
+module _ (l : Label) (list mask words : ℕ) (e : checked_of l list mask words ≡ Ok tt) where
+  halves : (sizes_of l mask words ≡ Ok tt) × (inputs_of l.transform l.offset list ≡ Ok tt)
   unfolding checked_of
   halves = both (sizes_of l mask words) (inputs_of l.transform l.offset list) e
 
@@ -125,11 +74,22 @@ module _ (l : Label) (list mask words : ℕ) (e : checked_of l list mask words �
   pub short_list : list ≤ most_bytes
   short_list = list_fits l list halves.1
 
--- the two parts of the check, one after the other
-pub sizes_then : (l : Label) (list mask words : ℕ) → sizes_of l mask words ≡ Fine → inputs_of l.transform l.offset list ≡ checked_of l list mask words
+-- and the other way round: 1 to 5 refuse nothing that fits
+pub all_fit : (l : Label) (mask words : ℕ) → Sized l → (ltb 0 (rows l) && ltb mask (l.pitch * (rows l - 1) + l.width)) ≡ false → rows l ≤ words → Ok tt ≡ sizes_of l mask words
+unfolding sizes_of
+all_fit l mask words z h g =
+    rw (
+      le-ltb most_pixels l.width z.narrow,
+      le-ltb most_pixels l.height z.low,
+      le-ltb l.end l.first z.ordered,
+      le-ltb l.height l.end z.inside,
+      le-ltb l.pitch l.width z.pitched,
+      le-ltb most_pitch l.pitch z.near,
+      h,
+      le-ltb words (rows l) g,
+    )
+
+-- 6 and 7 are asked behind them
+pub sizes_then : (l : Label) (list mask words : ℕ) → sizes_of l mask words ≡ Ok tt → inputs_of l.transform l.offset list ≡ checked_of l list mask words
 unfolding checked_of
 sizes_then l list mask words e = rw e
-
-pub sizes_refuse : (l : Label) (list mask words : ℕ) (w : Refusal) → sizes_of l mask words ≡ Faulty w → Faulty w ≡ checked_of l list mask words
-unfolding checked_of
-sizes_refuse l list mask words w e = rw e

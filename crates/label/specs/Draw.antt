@@ -1,6 +1,5 @@
 -- docs/RULES.md, "When a label is turned away" and "What a call leaves": the whole outcome of a drawing.
-use Rattle.std.specs.Prelude.{ℕ, Bool, cond, List, [], length, replicate, ltb}
-use Rattle.std.proofs.Math.Option.{Option, none, some}
+use Rattle.std.specs.Prelude.{ℕ, Bool, cond, List, [], length, replicate, ltb, Option, None, Some, ⊤, Result, Ok, Err}
 use Rattle.storage.specs.Deposits.{Deposit, distinct}
 use Rattle.command.specs.declared.Command.{Command}
 use Rattle.pen.specs.declared.Frame.{Frame}
@@ -8,23 +7,29 @@ use Rattle.raster.specs.Path.{deposits_of}
 use Rattle.sweep.specs.Masks.{mask_from}
 use Rattle.path.specs.declared.Refusal.{Refusal}
 use Rattle.path.specs.declared.Refusal.TheVariants.{Full}
-use Rattle.path.specs.declared.Verdict.{Verdict}
-use Rattle.path.specs.declared.Verdict.TheVariants.{Fine, Faulty}
-use Rattle.path.specs.Refusals.{number_of}
+use Rattle.path.specs.declared.Refused.{Refused}
+use Rattle.path.specs.Refusals.{number_of, refused_at}
 use Rattle.path.specs.Reading.{Read, refused, path, cuts_in, read_list}
 use Rattle.path.specs.Strokes.{strokes_of}
 use Rattle.path.specs.Storing.{stored_by, fitting}
 use Rattle.path.specs.Pouring as pouring
 use Rattle.label.specs.declared.Label.{Label}
-use Rattle.label.specs.declared.Answer.{Answer}
-use Rattle.label.specs.declared.Answer.TheVariants.{Drawn, Refused}
+use Rattle.label.specs.declared.Drawn.{Drawn}
 use Rattle.label.specs.declared.Numbers.{Numbers}
 use Rattle.label.specs.Checks.{rows, checked_of}
 
+-- what a drawing answers
+abbrev pub Answer : Type 0
+Answer = Result Drawn Refused
+
+-- drawn, with these counts
+abbrev pub drawn_with : ℕ → ℕ → ℕ → Answer
+drawn_with records cells cut = Ok (record { records = records; cells = cells; cut = cut })
+
 -- the rules' number, index and counts of each answer
 abbrev pub numbers_of : Answer → Numbers
-numbers_of (Drawn records cells cut) = record { number = 0; index = 0; records = records; cells = cells; cut = cut }
-numbers_of (Refused why index) = record { number = number_of why; index = index; records = 0; cells = 0; cut = 0 }
+numbers_of (Ok d) = record { number = 0; index = 0; records = d.records; cells = d.cells; cut = d.cut }
+numbers_of (Err r) = record { number = number_of r.why; index = r.«record»; records = 0; cells = 0; cut = 0 }
 
 -- the answer, and the mask and the workspace after it
 pub record Outcome : Type 0 where
@@ -66,34 +71,34 @@ room_for l words cs = fitting (pool_of l words) [] (stored_by (frame_of l) (stro
 
 -- 13 with the record that it names, where there are too many places
 abbrev pub thirteen : Bool → ℕ → Option ℕ
-thirteen many index = cond many (some index) none
+thirteen many index = cond many (Some index) None
 
 abbrev pub ran_out : Label → ℕ → List Command → Option ℕ
 ran_out l words cs = thirteen (too_many l words cs) (room_for l words cs)
 
 -- what an accepted list answers: the numbers of its records, of the label's cells and of the coordinates that are cut
 abbrev pub drawn_as : Label → List Command → Answer
-drawn_as l cs = Drawn (length cs) (distinct (log_of l cs)) (cuts_in l.transform l.offset cs)
+drawn_as l cs = drawn_with (length cs) (distinct (log_of l cs)) (cuts_in l.transform l.offset cs)
 
 -- 13 leaves the mask; else these numbers, and the mask painted
 unfoldable pub inked : Option ℕ → Label → List ℕ → List ℕ → List Command → Outcome
 unfolding distinct deposits_of strokes_of cuts_in painted_of
-inked (some index) l mask words cs = outcome (Refused Full index) mask (wiped words)
-inked none l mask words cs = outcome (drawn_as l cs) (painted_of l (log_of l cs) mask) (wiped words)
+inked (Some index) l mask words cs = outcome (refused_at Full index) mask (wiped words)
+inked None l mask words cs = outcome (drawn_as l cs) (painted_of l (log_of l cs) mask) (wiped words)
 
 -- a refusal by 1 to 12 or 18 changes neither mask nor words
 abbrev pub turned_away : Refusal → ℕ → List ℕ → List ℕ → Outcome
-turned_away why index mask words = outcome (Refused why index) mask words
+turned_away why index mask words = outcome (refused_at why index) mask words
 
 unfoldable pub drawn_from : (List Command → Option ℕ) → Label → List ℕ → List ℕ → Read → Outcome
 unfolding inked
 drawn_from full l mask words (refused why i) = turned_away why i mask words
 drawn_from full l mask words (path cs) = inked (full cs) l mask words cs
 
-unfoldable pub checked_draw : (List Command → Option ℕ) → Verdict → Label → List ℕ → List ℕ → List ℕ → Outcome
+unfoldable pub checked_draw : (List Command → Option ℕ) → Result ⊤ Refusal → Label → List ℕ → List ℕ → List ℕ → Outcome
 unfolding drawn_from read_list
-checked_draw full (Faulty why) l s mask words = turned_away why 0 mask words
-checked_draw full Fine l s mask words = drawn_from full l mask words (read_list l.transform l.offset s)
+checked_draw full (Err why) l s mask words = turned_away why 0 mask words
+checked_draw full (Ok u) l s mask words = drawn_from full l mask words (read_list l.transform l.offset s)
 
 -- the outcome of a drawing for which `full` is rule 13, with its record
 unfoldable pub draw_by : (List Command → Option ℕ) → Label → List ℕ → List ℕ → List ℕ → Outcome

@@ -2,18 +2,23 @@
 // `draw` answers whatever it is lent; a refusal leaves the mask as it was.
 #![tactic(auto)]
 
-ghost use Rattle.std.specs.Prelude.{◌≡◌, ◌&&◌, ◌+◌, ◌*◌, ◌-◌, ◌≤◌, ltb, length};
-ghost use Rattle.label.specs.Checks.{sizes_of, checked_of};
+ghost use Rattle.std.specs.Prelude.{◌≡◌, ◌&&◌, ◌+◌, ◌*◌, ◌-◌, ◌≤◌, ltb, length, Ok, Err, MatchResult};
 ghost use Rattle.path.specs.Inputs.{most_bytes};
+ghost use Rattle.path.specs.Storing.{Within};
+ghost use Rattle.label.specs.Checks.{view_of, sizes_of, checked_of};
 ghost use Rattle.label.specs.Draw.{numbers_of, outcome, ran_out, draw_of};
-ghost use Rattle.label.specs.Inking.{Sized, Lent, Inked, Celled};
+ghost use Rattle.label.specs.Inking.{Lent, accepted_of, most_told, told_of, Inked, Celled};
 
 use geometry::{Point, Transform};
-use path::{Judged, Pool, Refusal, Verdict};
+use path::{Overfull, Records, Refusal, Refused, View};
 use sweep::Fill;
 
+mod checked;
+
+pub use checked::Checked;
+
 // What a drawing takes besides list, mask and workspace. The band is the rows from first up to end.
-#[derive(Clone, Copy)]
+#[derive(Clone, Copy, Debug, PartialEq)]
 pub struct Label {
     pub transform: Transform,
     pub offset: Point,
@@ -26,16 +31,32 @@ pub struct Label {
     pub end: usize,
 }
 
-// What a drawing answers.
-#[derive(Clone, Copy)]
-pub enum Answer {
-    Drawn { records: u32, cells: u32, cut: u32 },
-    Refused { why: Refusal, record: u32 },
+impl Label {
+    // What its list is drawn under.
+    pub fn view(self) -> View
+        ensures { result ≡ view_of self }
+    {
+        View {
+            transform: self.transform,
+            offset: self.offset,
+        }
+    }
 }
+
+// A label that was drawn: how many records its list has, how many cells there were, and how many coordinates are cut.
+#[derive(Clone, Copy, Debug, PartialEq, Eq)]
+pub struct Drawn {
+    pub records: u32,
+    pub cells: u32,
+    pub cut: u32,
+}
+
+// What a drawing answers.
+pub type Answer = Result<Drawn, Refused>;
 
 // An answer in the rules' numbers; the C face hands it out.
 #[repr(C)]
-#[derive(Clone, Copy)]
+#[derive(Clone, Copy, Debug, PartialEq, Eq)]
 pub struct Numbers {
     pub number: u32,
     pub index: u32,
@@ -48,28 +69,26 @@ const MOST_PIXELS: usize = 4096;
 
 const MOST_PITCH: usize = 65536;
 
-pub fn numbers_of(a: Answer) -> Numbers
-    ensures { result ≡ numbers_of a }
-{
-    match a {
-        Answer::Drawn {
-            records,
-            cells,
-            cut,
-        } => Numbers {
-            number: 0,
-            index: 0,
-            records,
-            cells,
-            cut,
-        },
-        Answer::Refused { why, record } => Numbers {
-            number: path::number_of(why),
-            index: record,
-            records: 0,
-            cells: 0,
-            cut: 0,
-        },
+impl From<Answer> for Numbers {
+    ghost from_gives = { λ a n. n ≡ numbers_of a };
+
+    fn from(a: Answer) -> Numbers {
+        match a {
+            Ok(drawn) => Numbers {
+                number: 0,
+                index: 0,
+                records: drawn.records,
+                cells: drawn.cells,
+                cut: drawn.cut,
+            },
+            Err(refused) => Numbers {
+                number: refused.why.into(),
+                index: refused.record,
+                records: 0,
+                cells: 0,
+                cut: 0,
+            },
+        }
     }
 }
 
@@ -78,94 +97,101 @@ fn short_mask(rows: usize, pitch: usize, width: usize, mask: usize) -> bool
     requires { (rows ≤ 65536) × (pitch ≤ 65536) × (width ≤ 65536) }
     ensures { result ≡ (ltb 0 rows && ltb mask (pitch * (rows - 1) + width)) }
 {
-    if 0 < rows {
-        return mask < pitch * (rows - 1) + width;
-    }
-    false
+    0 < rows && mask < pitch * (rows - 1) + width
 }
 
 // Checks 1 to 5.
-fn check_sizes(l: Label, mask: usize, words: usize) -> Verdict
+#[tactic(auto, unfolding(crate::specs::Checks::sizes_of))]
+fn check_sizes(l: Label, mask: usize, words: usize) -> Result<(), Refusal>
     ensures { result ≡ sizes_of l mask words }
 {
-    if MOST_PIXELS < l.width {
-        return Verdict::Faulty(Refusal::Size);
+    if MOST_PIXELS < l.width || MOST_PIXELS < l.height {
+        return Err(Refusal::Size);
     }
-    if MOST_PIXELS < l.height {
-        return Verdict::Faulty(Refusal::Size);
+    if l.end < l.first || l.height < l.end {
+        return Err(Refusal::Band);
     }
-    if l.end < l.first {
-        return Verdict::Faulty(Refusal::Band);
-    }
-    if l.height < l.end {
-        return Verdict::Faulty(Refusal::Band);
-    }
-    if l.pitch < l.width {
-        return Verdict::Faulty(Refusal::Pitch);
-    }
-    if MOST_PITCH < l.pitch {
-        return Verdict::Faulty(Refusal::Pitch);
+    if l.pitch < l.width || MOST_PITCH < l.pitch {
+        return Err(Refusal::Pitch);
     }
     let rows = l.end - l.first;
     if short_mask(rows, l.pitch, l.width, mask) {
-        return Verdict::Faulty(Refusal::Mask);
+        return Err(Refusal::Mask);
     }
     if words < rows {
-        return Verdict::Faulty(Refusal::Workspace);
+        return Err(Refusal::Workspace);
     }
-    Verdict::Fine
+    Ok(())
 }
 
 // Checks 1 to 7.
-pub fn check(l: Label, list: usize, mask: usize, words: usize) -> Verdict
+#[tactic(auto, unfolding(crate::specs::Checks::checked_of))]
+pub fn check(l: Label, list: usize, mask: usize, words: usize) -> Result<(), Refusal>
     ensures { result ≡ checked_of l list mask words }
 {
-    match check_sizes(l, mask, words) {
-        Verdict::Fine => path::check_inputs(l.transform, l.offset, list),
-        Verdict::Faulty(why) => Verdict::Faulty(why),
+    check_sizes(l, mask, words)?;
+    path::check_inputs(l.view(), list)
+}
+
+// Checks 1 to 12 and 18: the label, which then has the sizes of one that is drawn, and what its list holds.
+pub fn accept(
+    list: &[u8],
+    l: Label,
+    mask: usize,
+    words: usize,
+) -> Result<(Checked, Records), Refused>
+    ensures { MatchResult result (λ a. (a.0.label ≡ l) × (accepted_of l list.now mask words ≡ Ok a.1)) (λ refused. accepted_of l list.now mask words ≡ Err refused) }
+{
+    check(l, list.len(), mask, words)?;
+    let records = path::judge(list, l.view())?;
+    Ok((Checked { label: l }, records))
+}
+
+// What is told of an accepted list: its counts, or 13 at the record for which the pool had no room.
+pub fn told(cells: Result<usize, Overfull>, records: Records) -> Answer
+    requires { Within most_told most_told cells }
+    ensures { result ≡ told_of cells records }
+{
+    match cells {
+        Ok(n) => Ok(Drawn {
+            records: records.count,
+            cells: n as u32,
+            cut: records.cut,
+        }),
+        Err(full) => Err(Refused {
+            why: Refusal::Full,
+            record: full.record as u32,
+        }),
     }
 }
 
-// Draws an accepted list of so many records and cut coordinates.
-fn ink(list: &[u8], l: Label, records: u32, cut: u32, mask: &mut [u8], words: &mut [u32]) -> Answer
-    requires sized { Sized l }
-    requires lent { Lent l (length mask.old) (length words.old) }
+// Draws an accepted list.
+// That the mask and the words are long enough stays a clause: it speaks of what is lent for the call, not of the label.
+fn ink(
+    list: &[u8],
+    checked: Checked,
+    records: Records,
+    mask: &mut [u8],
+    words: &mut [u32],
+) -> Answer
+    requires lent { Lent checked.label (length mask.old) (length words.old) }
     requires few_bytes { length list.now ≤ most_bytes }
-    ensures { Inked (ran_out l (length words.old)) l records cut list.now mask.old words.old (outcome result mask.new words.new) }
+    ensures { Inked (ran_out checked.label (length words.old)) checked.label records.count records.cut list.now mask.old words.old (outcome result mask.new words.new) }
 {
-    let rows = l.end - l.first;
-    let fill = l.fill;
-    match path::pour(list, l.transform, l.offset, l.width, l.first, l.end, words) {
-        Pool::Full(i) => {
-            storage::wipe(words);
-            Answer::Refused {
-                why: Refusal::Full,
-                record: i as u32,
-            }
-        }
-        Pool::Cells(n) => {
-            sweep::sweep(words, rows, n, l.width, fill, l.up, l.pitch, mask);
-            storage::wipe(words);
-            Answer::Drawn {
-                records,
-                cells: n as u32,
-                cut,
-            }
-        }
+    let cells = checked.pour(list, words);
+    if let Ok(n) = cells {
+        checked.sweep(words, n, mask);
     }
+    storage::wipe(words);
+    told(cells, records)
 }
 
 // Draws a label's band.
 pub fn draw(list: &[u8], l: Label, mask: &mut [u8], words: &mut [u32]) -> Answer
     ensures { outcome result mask.new words.new ≡ draw_of l list.now mask.old words.old }
 {
-    match check(l, list.len(), mask.len(), words.len()) {
-        Verdict::Faulty(why) => Answer::Refused { why, record: 0 },
-        Verdict::Fine => match path::judge(list, l.transform, l.offset) {
-            Judged::Refused(why, record) => Answer::Refused { why, record },
-            Judged::Records { count, cut } => ink(list, l, count, cut, mask, words),
-        },
-    }
+    let (checked, records) = accept(list, l, mask.len(), words.len())?;
+    ink(list, checked, records, mask, words)
 }
 
 // For tests: draws as for a mask of so many bytes, and where it is accepted leaves the cells in the words, not swept and
@@ -173,27 +199,10 @@ pub fn draw(list: &[u8], l: Label, mask: &mut [u8], words: &mut [u32]) -> Answer
 pub fn cells(list: &[u8], l: Label, mask: usize, words: &mut [u32]) -> Answer
     ensures { Celled l list.now mask words.old words.new result }
 {
-    match check(l, list.len(), mask, words.len()) {
-        Verdict::Faulty(why) => Answer::Refused { why, record: 0 },
-        Verdict::Fine => match path::judge(list, l.transform, l.offset) {
-            Judged::Refused(why, record) => Answer::Refused { why, record },
-            Judged::Records {
-                count: records,
-                cut,
-            } => match path::pour(list, l.transform, l.offset, l.width, l.first, l.end, words) {
-                Pool::Full(i) => {
-                    storage::wipe(words);
-                    Answer::Refused {
-                        why: Refusal::Full,
-                        record: i as u32,
-                    }
-                }
-                Pool::Cells(count) => Answer::Drawn {
-                    records,
-                    cells: count as u32,
-                    cut,
-                },
-            },
-        },
+    let (checked, records) = accept(list, l, mask, words.len())?;
+    let stored = checked.pour(list, words);
+    if stored.is_err() {
+        storage::wipe(words);
     }
+    told(stored, records)
 }

@@ -1,22 +1,23 @@
 -- The cases of a line: which rule gives its marks.
 use Prim.Native.Nat.{◌<◌, ◌≤◌}
 use mathlib.Core.Path.{◌≡◌, refl}
-use mathlib.Core.Bool.{Bool, true, false, ◌&&◌, ◌||◌, or-true, false≢true}
+use mathlib.Core.Bool.{Bool, true, false, ◌&&◌, ◌||◌, and-true, or-true, false≢true}
 use mathlib.Core.Logic.{◌⊎◌, inl, inr}
 use lib.Dec.{leb, ltb}
 use mathlib.Core.List.{[], ◌∷◌}
 use borrow.Author.Tests.{eq-eqb, ne_eqb, leb-true, ltb-true}
 use native.Mathlib.Omega.{arith}
+use Rattle.std.specs.List.{list_all}
 use Rattle.fixed.specs.declared.FixedPoint.{FixedPoint}
 use Rattle.fixed.specs.Fixed.{cell}
 use Rattle.pen.specs.declared.Frame.{Frame}
 use Rattle.pen.specs.Marks.{enter}
 use Rattle.line.specs.declared.Ends.{Ends}
 use Rattle.line.specs.Walk.{start, last, upright, row_side, p, crossed}
-use Rattle.line.specs.Lines.{ends, sides, within, marks_of, skips, marks_in, line_marks}
+use Rattle.line.specs.Lines.{ends, sides, within, marks_of, past, ahead, skips, marks_in, line_marks}
 use Rattle.line.specs.Range.{Reach}
 use Rattle.line.specs.Course.{Bounded, rows_to}
-use Rattle.line.proofs.Tests.{no_le, no_lts, no_eq, yes_le, yes_lts, yes_eq}
+use Rattle.line.proofs.Tests.{no_eq, yes_le, yes_lts, yes_eq}
 
 module _ (l : Ends) where
   pub marks_within : cell l.x1 ≡ cell l.x2 → cell l.y1 ≡ cell l.y2 → marks_of l ≡ last l (start l)
@@ -51,9 +52,6 @@ module _ (f : Frame) (l : Ends) where
   pub skips_ahead : cell l.y1 < f.first → cell l.y2 < f.first → skips f l ≡ true
   skips_ahead h g = rw (yes_lts (cell l.y1) f.first (cell l.y2) f.first h g, or-true _)
 
-  pub skips_not : (f.end ≤ cell l.y1 → cell l.y2 < f.end) → (cell l.y1 < f.first → f.first ≤ cell l.y2) → skips f l ≡ false
-  skips_not h g = rw (no_le f.end (cell l.y1) f.end (cell l.y2) h, no_lts (cell l.y1) f.first (cell l.y2) f.first g)
-
   -- which edge of the band a skipped line is past
   pub skips_which : skips f l ≡ true → ((f.end ≤ cell l.y1) × (f.end ≤ cell l.y2)) ⊎ ((cell l.y1 < f.first) × (cell l.y2 < f.first))
   skips_which e = go (leb f.end (cell l.y1)) (leb f.end (cell l.y2)) (ltb (cell l.y1) f.first) (ltb (cell l.y2) f.first) refl refl refl refl e
@@ -79,6 +77,11 @@ module _ (f : Frame) (l : Ends) where
 pub line_is : (f : Frame) (a b : FixedPoint) → line_marks f a b ≡ marks_in f (ends a b)
 unfolding line_marks
 line_is f a b = refl
+
+-- a line is skipped where the tests of its two points say so
+pub skips_is : (f : Frame) (a b : FixedPoint)
+    → skips f (ends a b) ≡ (list_all (λ p. past f p.y) (a ∷ b ∷ []) || list_all (λ p. ahead f p.y) (a ∷ b ∷ []))
+skips_is f a b = simp and-true
 
 pub reach_bounded : {a b : FixedPoint} → Reach a → Reach b → Bounded (ends a b)
 reach_bounded {a} {b} r s = record { bx1 = omega arith; by1 = omega arith; bx2 = omega arith; by2 = omega arith }

@@ -1,7 +1,7 @@
 -- The course of a slanted line through the cells: from every cell but the end's it goes on to a cell that is one nearer to the end's.
 -- For each pair of directions two corners bound p, and the end lies on the line: so the side through which it leaves is never one behind the end.
 use Prim.Native.Nat.{ℕ, ◌+◌, ◌*◌, ◌-◌, ◌/◌, ◌<◌, ◌≤◌}
-use mathlib.Core.Path.{◌≡◌, sym, ap, ◌∙◌}
+use mathlib.Core.Path.{◌≡◌, sym, ap, ◌∙◌, subst}
 use mathlib.Core.Logic.{⊎_elim}
 use native.Mathlib.Omega.{arith}
 use native.Mathlib.Nat.{mul-add, mul-le-mul_left}
@@ -9,10 +9,11 @@ use Rattle.fixed.specs.Fixed.{apart}
 use Rattle.float.specs.Differences.{◌⊖◌}
 use Rattle.float.proofs.Differences.{which}
 use Rattle.line.specs.declared.Ends.{Ends}
+use Rattle.line.specs.declared.At.{At}
 use Rattle.line.specs.declared.Side.{Side}
 use Rattle.line.specs.declared.Side.TheVariants.{Left, Next, Right, Previous}
 use Rattle.line.specs.Walk.{way}
-use Rattle.line.specs.Course.{B, Bounded, Near, Fwd, Bwd, NE, NW, SE, SW, Course, ne, nw, se, sw, togo}
+use Rattle.line.specs.Course.{B, Bounded, Near, Fwd, Bwd, NE, NW, SE, SW, Course, ne, nw, se, sw, togo, Under}
 use Rattle.line.proofs.Ways.{to_left, to_next, to_right, to_previous}
 
 -- a move: its crossing is A − D over d, and it leads to cell (c', r') with P'
@@ -387,3 +388,7 @@ module _ (l : Ends) (c r P : ℕ) (bd : Bounded l) where
   near (nw i) = omega arith
   near (se i) = omega arith
   near (sw i) = omega arith
+
+-- which of these is true where a line on its course leaves its cell through a side
+pub leaves : {l : Ends} {P : ℕ} {a : At} {v : Side} (w : Side) → Bounded l → Under l P a → 0 < togo l a.col a.row → v ≡ way l (P ⊖ B) → v ≡ w → Moved l a.col a.row P w
+leaves {l} {P} {a} w b u t e h = subst (Moved l a.col a.row P) (sym e ∙ h) (moved l a.col a.row P b u.course t)

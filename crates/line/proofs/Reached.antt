@@ -14,7 +14,7 @@ use Rattle.line.specs.declared.Rates.{Rates}
 use Rattle.line.specs.declared.Turn.{Turn}
 use Rattle.line.specs.declared.Side.{Side}
 use Rattle.line.specs.declared.Side.TheVariants.{Left, Next, Right, Previous}
-use Rattle.line.specs.Walk.{start, last, upright, row_side, p, way, gone, cut, crossed}
+use Rattle.line.specs.Walk.{start, upright, row_side, p, way, gone, cut, crossed}
 use Rattle.line.specs.Lines.{sides}
 use Rattle.line.specs.Course.{B, Bounded, Slanted, Course, ne, nw, se, sw, Level, beside, rows_to, togo, Rated, Under, Stepped}
 use Rattle.line.specs.Trail.{Boxed, cuts, UpTo, ended, also}

@@ -19,9 +19,6 @@ module _ (a b c d : ℕ) where
   pub no_le : (a ≤ b → d < c) → (leb a b && leb c d) ≡ false
   no_le f = ⊎_elim (λ h. rw (lt-leb a b h)) (λ h. rw (lt-leb c d (f h), and-false (leb a b))) (which b a)
 
-  pub no_lts : (a < b → d ≤ c) → (ltb a b && ltb c d) ≡ false
-  no_lts f = ⊎_elim (λ h. rw (le-ltb c d (f h), and-false (ltb a b))) (λ h. rw (le-ltb a b h)) (which a b)
-
   pub no_eq : (a ≡ b → c ≡ d → ⊥) → (eqb a b && eqb c d) ≡ false
   no_eq f = go (eqb a b) refl
     where

@@ -1,5 +1,5 @@
 -- The two loops: what is drawn, and what is still to be drawn, are the line's marks.
-use Prim.Native.Nat.{ℕ, suc, ◌+◌, ◌/◌, ◌^◌, ◌<◌, ◌≤◌}
+use Prim.Native.Nat.{ℕ, suc, ◌+◌, ◌/◌, ◌^◌, ◌<◌}
 use mathlib.Core.Path.{◌≡◌, refl, sym, ap, ◌∙◌}
 use mathlib.Core.Bool.{Bool, true, false, cond}
 use mathlib.Core.List.{List, [], ◌∷◌, ◌++◌, append_assoc}
@@ -10,7 +10,7 @@ use lib.Dec.{ltb}
 use lib.IntN.{ℤ}
 use Rattle.float.specs.Differences.{◌⊖◌}
 use Rattle.fixed.specs.Fixed.{cell}
-use Rattle.pen.specs.declared.Frame.{Frame}
+use Rattle.pen.specs.declared.boards.Board.{Board}
 use Rattle.pen.specs.declared.Pen.{Pen}
 use Rattle.pen.specs.Marks.{Mark, enter}
 use Rattle.pen.specs.Drawing.{Drew}
@@ -20,7 +20,7 @@ use Rattle.line.specs.declared.Turn.{Turn}
 use Rattle.line.specs.declared.Side.{Side}
 use Rattle.line.specs.declared.Side.TheVariants.{Next, Previous}
 use Rattle.line.specs.Walk.{pair, last, over, upright, way, cut, gone, crossed}
-use Rattle.line.specs.Course.{B, InCell, Level, Aside, beside, rows_to, togo, Under, Stepped}
+use Rattle.line.specs.Course.{B, InCell, Level, beside, rows_to, togo, Under, Stepped}
 
 -- two more marks are drawn, and then the last
 pub drawn_more : (done : List Mark) {rest rest' all : List Mark} (x y : Mark) → done ++ rest ≡ all → rest ≡ x ∷ y ∷ rest' → (done ++ (x ∷ y ∷ [])) ++ rest' ≡ all
@@ -29,7 +29,7 @@ drawn_more done {rest' = rest'} x y e f = append_assoc done (x ∷ y ∷ []) res
 pub drawn_all : (done : List Mark) {rest rest' all : List Mark} → done ++ rest ≡ all → rest ≡ rest' → done ++ rest' ≡ all
 drawn_all done e f = ap (λ (ms : List Mark). done ++ ms) (sym f) ∙ e
 
-pub drew_as : {f : Frame} {cap : ℕ} {ws ws' : List ℕ} {d d' : Pen} {ms ns : List Mark} → ms ≡ ns → Drew f cap ws ws' d d' ms → Drew f cap ws ws' d d' ns
+pub drew_as : {board : Board} {ws ws' : List ℕ} {d d' : Pen} {ms ns : List Mark} → ms ≡ ns → Drew board ws ws' d d' ms → Drew board ws ws' d d' ns
 drew_as e d = rw e at d
 
 -- ---- vertical lines
@@ -47,27 +47,13 @@ pub row_nearer : (l : Ends) (next : Bool) (a : At) → Level l next a.row → (a
 row_nearer l true a h n = omega arith
 row_nearer l false a h n = omega arith
 
-pub row_less : (l : Ends) (next : Bool) (a : At) → Level l next a.row → (a.row ≡ cell l.y2 → ⊥) → rows_to l (beside a next).row < rows_to l a.row
-row_less l next a h n = less (row_nearer l next a h n)
-  where
-    less : {m k : ℕ} → m ≡ k + 1 → k < m
-    less e = omega arith
-
 pub row_level : (l : Ends) (next : Bool) (a : At) → Level l next a.row → (a.row ≡ cell l.y2 → ⊥) → Level l next (beside a next).row
 row_level l true a h n = omega arith
 row_level l false a h n = omega arith
 
-pub row_aside : (l : Ends) (next : Bool) (a : At) → a.row < 2 ^ 14 → Level l next a.row → (a.row ≡ cell l.y2 → ⊥) → Aside a next
-row_aside l true a f h n = record { few = f; some = λ e. let z : ◌≡◌ {A = ℕ} 0 1 = cc in omega arith }
-row_aside l false a f h n = record { few = f; some = λ e. omega arith }
-
 pub row_few : (next : Bool) (a : At) → (l : Ends) → l.y2 < 2 ^ 22 → a.row < 2 ^ 14 → Level l next (beside a next).row → (beside a next).row < 2 ^ 14
 row_few true a l b f h = omega arith
 row_few false a l b f h = omega arith
-
-pub row_out : (next : Bool) → cond next 256 0 ≤ 256
-row_out true = omega arith
-row_out false = omega arith
 
 pub row_point : (next : Bool) (a : At) → InCell a → InCell (beside a next)
 row_point true a h = record { inx = h.inx; iny = omega arith }
@@ -95,12 +81,12 @@ upright_last l next a e = rw none
     none = omega arith
 
 -- the loop of a vertical line: `done` is drawn, and the rest of the rows is still to be
-pub record Rising (f : Frame) (cap : ℕ) (l : Ends) (next : Bool) (ws₀ : List ℕ) (drawn₀ : Pen) (all : List Mark) (ws : List ℕ) (at : At) (drawn : Pen) : Type 0 where
+pub record Rising (board : Board) (l : Ends) (next : Bool) (ws₀ : List ℕ) (drawn₀ : Pen) (all : List Mark) (ws : List ℕ) (at : At) (drawn : Pen) : Type 0 where
   pub point : InCell at
   pub few : at.row < 2 ^ 14
   pub level : Level l next at.row
   pub done : List Mark
-  pub drew : Drew f cap ws₀ ws drawn₀ drawn done
+  pub drew : Drew board ws₀ ws drawn₀ drawn done
   pub same : done ++ upright (rows_to l at.row) (row_way next) l at ≡ all
 
 -- ---- slanted lines
@@ -129,8 +115,8 @@ pub far_y : (l : Ends) (c r : ℕ) → (r ≡ l.y2 / 256 → ⊥) → 0 < togo l
 far_y l c r h = omega arith
 
 -- the loop of a slanted line: `done` is drawn, and the rest of the walk is still to be
-pub record Running (f : Frame) (cap : ℕ) (l : Ends) (ws₀ : List ℕ) (drawn₀ : Pen) (all : List Mark) (ws : List ℕ) (P : ℕ) (at : At) (drawn : Pen) : Type 0 where
+pub record Running (board : Board) (l : Ends) (ws₀ : List ℕ) (drawn₀ : Pen) (all : List Mark) (ws : List ℕ) (P : ℕ) (at : At) (drawn : Pen) : Type 0 where
   pub under : Under l P at
   pub done : List Mark
-  pub drew : Drew f cap ws₀ ws drawn₀ drawn done
+  pub drew : Drew board ws₀ ws drawn₀ drawn done
   pub same : done ++ crossed (togo l at.col at.row) l (P ⊖ B) at ≡ all

@@ -16,7 +16,7 @@ use Rattle.pen.specs.declared.Frame.{Frame}
 use Rattle.pen.specs.Marks.{Mark, enter, Stand, after}
 use Rattle.line.specs.declared.Ends.{Ends}
 use Rattle.line.specs.Range.{Reach}
-use Rattle.line.specs.Walk.{start, last, p}
+use Rattle.line.specs.Walk.{start, p}
 use Rattle.line.specs.Lines.{ends, sides, marks_of, line_all, skips, line_marks}
 use Rattle.line.specs.Course.{Bounded}
 use Rattle.line.specs.Trail.{StandsIn, Enters, none, gives, enters, moves, Boxed, Outside}

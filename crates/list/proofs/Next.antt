@@ -8,11 +8,11 @@ use native.Mathlib.Omega.{arith}
 use lib.Dec.{ltb, leb, eqb}
 use lib.ListN.{length}
 use borrow.Author.Tests.{ltb-false, leb-true, leb-false, eqb-true, not-false}
+use Rattle.std.specs.Prelude.{Some, None, Result, Ok, Err}
 use Rattle.command.specs.declared.Command.{Command}
+use Rattle.list.specs.declared.Record.{Record}
 use Rattle.list.specs.declared.Reason.{Reason}
-use Rattle.list.specs.declared.Step.{Step}
-use Rattle.list.specs.declared.Step.TheVariants as step
-use Rattle.list.specs.Records.{le16, step_at, record_of, length_of}
+use Rattle.list.specs.Records.{le16, Step, found, step_of, step_at, record_of, length_of}
 use Rattle.list.proofs.Cases.{ended}
 
 -- where the record at a place may end
@@ -40,16 +40,19 @@ lengths k =
 module _ (s : List ℕ) (at : ℕ) where
   -- what each answer says of the place
   abbrev Placed : Step → Type 0
-  Placed step.End = length s ≤ at
-  Placed (step.Refused w) = at < length s
-  Placed (step.Command c next) = Within s at next
+  Placed (Ok None) = length s ≤ at
+  Placed (Ok (Some r)) = Within s at r.next
+  Placed (Err why) = at < length s
 
-  record_placed : (n k : ℕ) → at < length s → Placed (record_of n k s at)
+  abbrev PlacedRecord : Result Record Reason → Type 0
+  PlacedRecord r = Placed (step_of r)
+
+  record_placed : (n k : ℕ) → at < length s → PlacedRecord (record_of n k s at)
   unfolding record_of
   record_placed n k h =
-      pick (ltb k 1 || ltb 5 k) _ _ Placed (λ e. h)
-      (λ e. pick (not (eqb n (length_of k))) _ _ Placed (λ e. h)
-      (λ (a : not (eqb n (length_of k)) ≡ false). pick (ltb (length s) (at + (n + 2))) _ _ Placed (λ e. h)
+      pick (ltb k 1 || ltb 5 k) _ _ PlacedRecord (λ e. h)
+      (λ e. pick (not (eqb n (length_of k))) _ _ PlacedRecord (λ e. h)
+      (λ (a : not (eqb n (length_of k)) ≡ false). pick (ltb (length s) (at + (n + 2))) _ _ PlacedRecord (λ e. h)
       (λ (b : ltb (length s) (at + (n + 2)) ≡ false).
       let e : n ≡ length_of k = eqb-true n (length_of k) (not-false _ a) in
       let l = lengths k in
@@ -64,16 +67,16 @@ module _ (s : List ℕ) (at : ℕ) where
       pick (ltb (length s) (at + 4)) _ _ Placed (λ e. h) (λ e. record_placed (le16 s at) (le16 s (at + 2)) h))
 
   -- at or past the list's end there is the end, and the end is nowhere else
-  pub at_end : length s ≤ at → step_at s at ≡ step.End
+  pub at_end : length s ≤ at → step_at s at ≡ Ok None
   at_end h = sym (ended s at h)
 
-  pub end_at : step_at s at ≡ step.End → length s ≤ at
+  pub end_at : step_at s at ≡ Ok None → length s ≤ at
   end_at e = subst Placed e placed
 
-  pub refused_at : (w : Reason) → step_at s at ≡ step.Refused w → at < length s
+  pub refused_at : (w : Reason) → step_at s at ≡ Err w → at < length s
   refused_at w e = subst Placed e placed
 
-  module _ (c : Command) (next : ℕ) (e : step_at s at ≡ step.Command c next) where
+  module _ (c : Command) (next : ℕ) (e : step_at s at ≡ found c next) where
     pub next_in_is : Within s at next
     next_in_is = subst Placed e placed
 

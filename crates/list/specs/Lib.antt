@@ -1,3 +1,4 @@
 pub mod Records
 pub mod Written
 pub mod Table
+pub mod Commands

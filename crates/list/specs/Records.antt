@@ -1,5 +1,5 @@
 -- docs/RULES.md, "The path list": what stands at a place of it, and the number of each reason to refuse.
-use Rattle.std.specs.Prelude.{ℕ, ◌+◌, ◌*◌, List, cond, not, ◌||◌, length, get_or, drop, ltb, leb, eqb, Float}
+use Rattle.std.specs.Prelude.{ℕ, ◌+◌, ◌*◌, List, cond, not, ◌||◌, length, get_or, drop, ltb, leb, eqb, Float, Option, Some, None, Result, Ok, Err}
 use Rattle.std.specs.Float.Ieee.{of_bits}
 use Rattle.float.specs.Bits.{float_of}
 use Rattle.geometry.specs.declared.Point.{Point}
@@ -7,8 +7,7 @@ use Rattle.command.specs.declared.Command.{Command}
 use Rattle.command.specs.declared.Command.TheVariants.{MoveTo, LineTo, QuadTo, CurveTo, Close}
 use Rattle.list.specs.declared.Reason.{Reason}
 use Rattle.list.specs.declared.Reason.TheVariants.{Cut, Kind, Length}
-use Rattle.list.specs.declared.Step.{Step}
-use Rattle.list.specs.declared.Step.TheVariants as step
+use Rattle.list.specs.declared.Record.{Record}
 
 -- a 2-byte number, little-endian
 abbrev pub le16 : List ℕ → ℕ → ℕ
@@ -38,23 +37,40 @@ body_of k s =
 unfoldable pub length_of : ℕ → ℕ
 length_of k = cond (eqb k 1) 10 (cond (eqb k 2) 10 (cond (eqb k 3) 18 (cond (eqb k 4) 26 2)))
 
+-- a command, and the place behind its record
+abbrev pub recorded : Command → ℕ → Record
+recorded c next = record { command = c; next = next }
+
 -- the record of n + 2 bytes whose header says length n and kind k, judged in this order:
 -- kind not 1 to 5; length is not the kind's; its body passes the end
-unfoldable pub record_of : ℕ → ℕ → List ℕ → ℕ → Step
+unfoldable pub record_of : ℕ → ℕ → List ℕ → ℕ → Result Record Reason
 unfolding body_of length_of
 record_of n k s at =
-    cond (ltb k 1 || ltb 5 k) (step.Refused Kind)
-    (cond (not (eqb n (length_of k))) (step.Refused Length)
-    (cond (ltb (length s) (at + (n + 2))) (step.Refused Cut)
-    (step.Command (body_of k (drop (at + 4) s)) (at + (n + 2)))))
+    cond (ltb k 1 || ltb 5 k) (Err Kind)
+    (cond (not (eqb n (length_of k))) (Err Length)
+    (cond (ltb (length s) (at + (n + 2))) (Err Cut)
+    (Ok (recorded (body_of k (drop (at + 4) s)) (at + (n + 2))))))
 
--- what stands at a place: the end; 1 to 3 bytes left; a record
+-- what stands at a place: a record, the end, or a reason to refuse
+abbrev pub Step : Type 0
+Step = Result (Option Record) Reason
+
+-- a record with this command, and the place behind it
+abbrev pub found : Command → ℕ → Step
+found c next = Ok (Some (recorded c next))
+
+-- a record that was read, or the reason to refuse it
+abbrev pub step_of : Result Record Reason → Step
+step_of (Ok r) = Ok (Some r)
+step_of (Err why) = Err why
+
+-- the end; 1 to 3 bytes left; a record
 unfoldable pub step_at : List ℕ → ℕ → Step
 unfolding record_of
 step_at s at =
-    cond (leb (length s) at) step.End
-    (cond (ltb (length s) (at + 4)) (step.Refused Cut)
-    (record_of (le16 s at) (le16 s (at + 2)) s at))
+    cond (leb (length s) at) (Ok None)
+    (cond (ltb (length s) (at + 4)) (Err Cut)
+    (step_of (record_of (le16 s at) (le16 s (at + 2)) s at)))
 
 -- the refusal's number
 abbrev pub number_of : Reason → ℕ

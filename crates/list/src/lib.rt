@@ -2,14 +2,17 @@
 // A record has two bytes of length, two of kind and four of each coordinate, the lowest byte first.
 #![tactic(auto)]
 
-ghost use Rattle.std.specs.Prelude.{◌≡◌, ◌+◌, ◌≤◌, ◌<◌, length};
+ghost use Rattle.std.specs.Prelude.{◌≡◌, ◌+◌, ◌-◌, ◌≤◌, ◌<◌, length};
+ghost use Rattle.std.specs.Iterator.{at_most};
+ghost use Rattle.command.specs.Kinds.{kind_of};
+ghost use Rattle.list.specs.declared.Reason.TheVariants.{Kind};
 ghost use Rattle.list.specs.Records.{le16, float_at, point_at, body_of, length_of, record_of, step_at, number_of};
 
-use command::Command;
+use command::{Command, UnknownKind, Verb};
 use geometry::Point;
 
 // Why a record is refused.
-#[derive(Clone, Copy)]
+#[derive(Clone, Copy, Debug, PartialEq, Eq)]
 pub enum Reason {
     // The header or the body passes the end of the list.
     Cut,
@@ -19,42 +22,44 @@ pub enum Reason {
     Length,
 }
 
-// What stands at a place of a list.
-#[derive(Clone, Copy)]
-pub enum Step {
-    // A command, and the place behind its record.
-    Command(Command, usize),
-    End,
-    Refused(Reason),
-}
-
 // The number of a reason.
-pub fn number_of(why: Reason) -> u32
-    ensures { result ≡ number_of why }
-{
-    match why {
-        Reason::Cut => 8,
-        Reason::Kind => 9,
-        Reason::Length => 10,
+impl From<Reason> for u32 {
+    ghost from_gives = { λ why n. n ≡ number_of why };
+
+    fn from(why: Reason) -> u32 {
+        match why {
+            Reason::Cut => 8,
+            Reason::Kind => 9,
+            Reason::Length => 10,
+        }
     }
 }
 
-// A byte as a number.
-fn wide(x: u8) -> usize
-    ensures { (result ≡ x) × (result < 256) }
-{
-    x as usize
+// The reason of a record whose kind no command has.
+impl From<UnknownKind> for Reason {
+    ghost from_gives = { λ _ why. why ≡ Kind };
+
+    fn from(_: UnknownKind) -> Self {
+        Self::Kind
+    }
 }
 
-// Two bytes as a number, the low one first.
-fn half_at(s: &[u8], at: usize) -> usize
+// A command, and the place behind its record.
+#[derive(Clone, Copy, Debug, PartialEq)]
+pub struct Record {
+    pub command: Command,
+    pub next: usize,
+}
+
+// Two bytes as a number, the low one first. This and those below take a place of any bytes, and no `Commands`: a body is a slice of its own.
+fn half_at(s: &[u8], at: usize) -> u16
     requires { at + 2 ≤ length s.now }
-    ensures { (result ≡ le16 s.now at) × (result < 65536) }
+    ensures { result ≡ le16 s.now at }
 {
-    wide(s[at]) + 256 * wide(s[at + 1])
+    u16::from_le_bytes([s[at], s[at + 1]])
 }
 
-// Four bytes as a float.
+// Four bytes as a float. Not by `f32::from_le_bytes`: that asks that the bits are no NaN's, and a list may hold any.
 fn float_at(s: &[u8], at: usize) -> f32
     requires { at + 4 ≤ length s.now }
     ensures { result ≡ float_at s.now at }
@@ -63,6 +68,7 @@ fn float_at(s: &[u8], at: usize) -> f32
 }
 
 // Eight bytes as a point, x before y.
+#[tactic(auto, unfolding(crate::specs::Records::point_at))]
 fn point_at(s: &[u8], at: usize) -> Point
     requires { at + 8 ≤ length s.now }
     ensures { result ≡ point_at s.now at }
@@ -73,69 +79,109 @@ fn point_at(s: &[u8], at: usize) -> Point
     }
 }
 
-// The length that a kind's record has.
-fn length_of(kind: usize) -> usize
-    ensures { (result ≡ length_of kind) × (result < 27) }
+// The length that a verb's record has.
+#[tactic(auto, unfolding(crate::specs::Records::length_of))]
+fn length_of(verb: Verb) -> u16
+    ensures value { result ≡ length_of (kind_of verb) }
+    ensures short { result < 27 }
 {
-    match kind {
-        1 => 10,
-        2 => 10,
-        3 => 18,
-        4 => 26,
-        _ => 2,
+    match verb {
+        Verb::MoveTo | Verb::LineTo => 10,
+        Verb::QuadTo => 18,
+        Verb::CurveTo => 26,
+        Verb::Close => 2,
     }
 }
 
-// The command of a kind, from the slice behind the header.
-fn body_of(kind: usize, body: &[u8]) -> Command
-    requires { length_of kind ≤ length body.now + 2 }
-    ensures { result ≡ body_of kind body.now }
+// The command of a verb, from the slice behind the header.
+#[tactic(auto, unfolding(crate::specs::Records::length_of, crate::specs::Records::body_of))]
+fn body_of(verb: Verb, body: &[u8]) -> Command
+    requires { length_of (kind_of verb) ≤ length body.now + 2 }
+    ensures { result ≡ body_of (kind_of verb) body.now }
 {
-    match kind {
-        1 => Command::MoveTo(point_at(body, 0)),
-        2 => Command::LineTo(point_at(body, 0)),
-        3 => Command::QuadTo(point_at(body, 0), point_at(body, 8)),
-        4 => Command::CurveTo(point_at(body, 0), point_at(body, 8), point_at(body, 16)),
-        _ => Command::Close,
+    match verb {
+        Verb::MoveTo => Command::MoveTo(point_at(body, 0)),
+        Verb::LineTo => Command::LineTo(point_at(body, 0)),
+        Verb::QuadTo => Command::QuadTo(point_at(body, 0), point_at(body, 8)),
+        Verb::CurveTo => {
+            Command::CurveTo(point_at(body, 0), point_at(body, 8), point_at(body, 16))
+        }
+        Verb::Close => Command::Close,
     }
 }
 
 // The record whose header says this length and this kind.
-fn record_of(size: usize, kind: usize, list: &[u8], at: usize) -> Step
-    requires { (size < 65536) × (at + 4 ≤ length list.now) }
+fn record_of(size: u16, kind: u16, list: &[u8], at: usize) -> Result<Record, Reason>
+    requires { at + 4 ≤ length list.now }
     ensures { result ≡ record_of size kind list.now at }
 {
-    let left = list.len() - at;
-    let expected = length_of(kind);
-    let whole = size + 2;
-    if kind < 1 {
-        return Step::Refused(Reason::Kind);
+    let verb = Verb::try_from(kind)?;
+    let whole = usize::from(size) + 2;
+    if size != length_of(verb) {
+        return Err(Reason::Length);
     }
-    if 5 < kind {
-        return Step::Refused(Reason::Kind);
-    }
-    if size != expected {
-        return Step::Refused(Reason::Length);
-    }
-    if left < whole {
-        return Step::Refused(Reason::Cut);
+    if list.len() - at < whole {
+        return Err(Reason::Cut);
     }
     let body = &list[at + 4..];
-    Step::Command(body_of(kind, body), at + whole)
+    Ok(Record {
+        command: body_of(verb, body),
+        next: at + whole,
+    })
 }
 
-// What stands at a place of a list.
-pub fn step_at(list: &[u8], at: usize) -> Step
+// What stands at a place of a list: a record, the end, or a reason to refuse.
+pub fn step_at(list: &[u8], at: usize) -> Result<Option<Record>, Reason>
     ensures { result ≡ step_at list.now at }
 {
-    let n = list.len();
-    if n <= at {
-        return Step::End;
+    if list.len() <= at {
+        return Ok(None);
     }
-    if n - at < 4 {
-        return Step::Refused(Reason::Cut);
+    if list.len() - at < 4 {
+        return Err(Reason::Cut);
     }
     let size = half_at(list, at);
     let kind = half_at(list, at + 2);
-    record_of(size, kind, list, at)
+    Ok(Some(record_of(size, kind, list, at)?))
+}
+
+// The commands of a list, front to back, up to a reason to refuse, behind which nothing is read.
+#[derive(Clone, Copy)]
+pub struct Commands<'a> {
+    pub list: &'a [u8],
+    pub at: usize,
+}
+
+impl<'a> Commands<'a> {
+    // From the list's beginning on.
+    pub fn new(list: &'a [u8]) -> Commands<'a>
+        ensures whole { result.list.now ≡ list.now }
+        ensures start { result.at ≡ 0 }
+    {
+        Commands { list, at: 0 }
+    }
+}
+
+impl<'a> Iterator for Commands<'a> {
+    ghost use Rattle.list.specs.Commands.{Stepped};
+
+    type Item = Result<Command, Reason>;
+
+    ghost next_gives = { Stepped };
+
+    ghost remaining = { λ s. at_most (length s.list.now - s.at) };
+
+    fn next(&mut self) -> Option<Result<Command, Reason>> {
+        match step_at(self.list, self.at) {
+            Ok(None) => None,
+            Ok(Some(record)) => {
+                self.at = record.next;
+                Some(Ok(record.command))
+            }
+            Err(why) => {
+                self.at = self.list.len();
+                Some(Err(why))
+            }
+        }
+    }
 }

@@ -6,15 +6,16 @@ ghost use Rattle.geometry.specs.Affine.{point_of};
 ghost use Rattle.paper.specs.Floats.{identity, scale, translation, combine, then_translate, moved, moved_vector};
 ghost use Rattle.paper.specs.Drawing.{left, draw, draw_in_bands};
 ghost use Rattle.paper.specs.Placing.{bounds as bounds_of, placement as placement_of};
-ghost use Rattle.mosszephyr.specs.Face.{in_c, out_of_c, point_in_c, origin_of, fill_of, label_of, whole_label};
+ghost use Rattle.mosszephyr.specs.Face.{in_c, out_of_c, point_in_c, point_out_of_c, origin_of, fill_of, label_of, whole_label};
 
 use geometry::{Origin, Point, Transform};
 use label::{Label, Numbers};
 use placing::{BoxNumbers, PlaceNumbers};
 use sweep::Fill;
 
+// The header's structs, laid out as C has them and with a flag where the crates below have an enum: so they stand beside Transform, Point and Label.
 #[repr(C)]
-#[derive(Clone, Copy)]
+#[derive(Clone, Copy, Debug, PartialEq)]
 pub struct MzTransform {
     pub xx: f32,
     pub xy: f32,
@@ -25,14 +26,14 @@ pub struct MzTransform {
 }
 
 #[repr(C)]
-#[derive(Clone, Copy)]
+#[derive(Clone, Copy, Debug, PartialEq)]
 pub struct MzPoint {
     pub x: f32,
     pub y: f32,
 }
 
 #[repr(C)]
-#[derive(Clone, Copy)]
+#[derive(Clone, Copy, Debug, PartialEq)]
 pub struct MzLabel {
     pub transform: MzTransform,
     pub offset_x: f32,
@@ -55,12 +56,64 @@ pub type MzPlacement = PlaceNumbers;
 
 // ---- the face's types as those of the crates below, and back
 
-pub fn transform_of(t: MzTransform) -> Transform
-    ensures { result ≡ out_of_c t }
-{
-    Transform::new(t.xx, t.xy, t.yx, t.yy, t.x, t.y)
+impl From<MzTransform> for Transform {
+    ghost from_gives = { λ t r. r ≡ out_of_c t };
+
+    fn from(t: MzTransform) -> Transform {
+        Transform::new(t.xx, t.xy, t.yx, t.yy, t.x, t.y)
+    }
 }
 
+impl From<Transform> for MzTransform {
+    ghost from_gives = { λ t r. r ≡ in_c t };
+
+    fn from(t: Transform) -> MzTransform {
+        MzTransform {
+            xx: t.xx,
+            xy: t.xy,
+            yx: t.yx,
+            yy: t.yy,
+            x: t.x,
+            y: t.y,
+        }
+    }
+}
+
+impl From<Point> for MzPoint {
+    ghost from_gives = { λ p r. r ≡ point_in_c p };
+
+    fn from(p: Point) -> MzPoint {
+        MzPoint { x: p.x, y: p.y }
+    }
+}
+
+impl From<MzPoint> for Point {
+    ghost from_gives = { λ p r. r ≡ point_out_of_c p };
+
+    fn from(p: MzPoint) -> Point {
+        Point::new(p.x, p.y)
+    }
+}
+
+impl From<MzLabel> for Label {
+    ghost from_gives = { λ l r. r ≡ label_of l };
+
+    fn from(l: MzLabel) -> Label {
+        Label {
+            transform: Transform::from(l.transform),
+            offset: Point::new(l.offset_x, l.offset_y),
+            fill: fill_of(l.even_odd),
+            up: l.up,
+            width: l.width,
+            height: l.height,
+            pitch: l.pitch,
+            first: l.first,
+            end: l.end,
+        }
+    }
+}
+
+// No `From<bool>`: bool and Origin are both of other crates, and a flag says what it means only by its name. So too for Fill.
 pub fn origin_of(bottom_left: bool) -> Origin
     ensures { result ≡ origin_of bottom_left }
 {
@@ -77,41 +130,6 @@ fn fill_of(even_odd: bool) -> Fill
         return Fill::EvenOdd;
     }
     Fill::NonZero
-}
-
-pub fn label_of(l: MzLabel) -> Label
-    ensures { result ≡ label_of l }
-{
-    Label {
-        transform: transform_of(l.transform),
-        offset: Point::new(l.offset_x, l.offset_y),
-        fill: fill_of(l.even_odd),
-        up: l.up,
-        width: l.width,
-        height: l.height,
-        pitch: l.pitch,
-        first: l.first,
-        end: l.end,
-    }
-}
-
-fn mz_transform(t: Transform) -> MzTransform
-    ensures { result ≡ in_c t }
-{
-    MzTransform {
-        xx: t.xx,
-        xy: t.xy,
-        yx: t.yx,
-        yy: t.yy,
-        x: t.x,
-        y: t.y,
-    }
-}
-
-pub fn mz_point(p: Point) -> MzPoint
-    ensures { result ≡ point_in_c p }
-{
-    MzPoint { x: p.x, y: p.y }
 }
 
 // ---- drawing
@@ -139,7 +157,7 @@ pub fn mz_draw(list: &[u8], label: MzLabel, mask: &mut [u8], words: &mut [u32]) 
     ensures { left result mask.new words.new
         ≡ draw (label_of label) list.now mask.old words.old }
 {
-    paper::draw(list, label_of(label), mask, words)
+    paper::draw(list, Label::from(label), mask, words)
 }
 
 // Draws the same in bands of `step` rows, with less room.
@@ -153,7 +171,7 @@ pub fn mz_draw_in_bands(
     ensures { left result mask.new words.new
         ≡ draw_in_bands step (label_of label) list.now mask.old words.old }
 {
-    paper::draw_in_bands(list, label_of(label), step, mask, words)
+    paper::draw_in_bands(list, Label::from(label), step, mask, words)
 }
 
 // ---- where a list lies
@@ -162,7 +180,7 @@ pub fn mz_draw_in_bands(
 pub fn mz_bounds(list: &[u8], transform: MzTransform) -> MzBounds
     ensures { result ≡ bounds_of (out_of_c transform) list.now }
 {
-    paper::bounds(list, transform_of(transform))
+    paper::bounds(list, Transform::from(transform))
 }
 
 // Where the mask of a list lies, and its size.
@@ -177,7 +195,7 @@ pub fn mz_placement(
 {
     paper::placement(
         list,
-        transform_of(transform),
+        Transform::from(transform),
         Point::new(offset_x, offset_y),
         origin_of(bottom_left),
     )
@@ -188,59 +206,59 @@ pub fn mz_placement(
 pub fn mz_identity() -> MzTransform
     ensures { result ≡ in_c identity }
 {
-    mz_transform(Transform::identity())
+    MzTransform::from(Transform::identity())
 }
 
 pub fn mz_translation(x: f32, y: f32) -> MzTransform
     ensures { result ≡ in_c (translation x y) }
 {
-    mz_transform(Transform::translation(x, y))
+    MzTransform::from(Transform::translation(x, y))
 }
 
 pub fn mz_scale(x: f32, y: f32) -> MzTransform
     ensures { result ≡ in_c (scale x y) }
 {
-    mz_transform(Transform::scale(x, y))
+    MzTransform::from(Transform::scale(x, y))
 }
 
 pub fn mz_then(t: MzTransform, next: MzTransform) -> MzTransform
     ensures { result ≡ in_c (combine (out_of_c t) (out_of_c next)) }
 {
-    mz_transform(transform_of(t).then(transform_of(next)))
+    MzTransform::from(Transform::from(t).then(Transform::from(next)))
 }
 
 pub fn mz_then_scale(t: MzTransform, x: f32, y: f32) -> MzTransform
     ensures { result ≡ in_c (combine (out_of_c t) (scale x y)) }
 {
-    mz_transform(transform_of(t).then_scale(x, y))
+    MzTransform::from(Transform::from(t).then_scale(x, y))
 }
 
 pub fn mz_then_translate(t: MzTransform, x: f32, y: f32) -> MzTransform
     ensures { result ≡ in_c (then_translate (out_of_c t) x y) }
 {
-    mz_transform(transform_of(t).then_translate(x, y))
+    MzTransform::from(Transform::from(t).then_translate(x, y))
 }
 
 pub fn mz_pre_scale(t: MzTransform, x: f32, y: f32) -> MzTransform
     ensures { result ≡ in_c (combine (scale x y) (out_of_c t)) }
 {
-    mz_transform(transform_of(t).pre_scale(x, y))
+    MzTransform::from(Transform::from(t).pre_scale(x, y))
 }
 
 pub fn mz_pre_translate(t: MzTransform, x: f32, y: f32) -> MzTransform
     ensures { result ≡ in_c (combine (translation x y) (out_of_c t)) }
 {
-    mz_transform(transform_of(t).pre_translate(x, y))
+    MzTransform::from(Transform::from(t).pre_translate(x, y))
 }
 
 pub fn mz_transform_point(t: MzTransform, x: f32, y: f32) -> MzPoint
     ensures { result ≡ point_in_c (moved (out_of_c t) (point_of x y)) }
 {
-    mz_point(transform_of(t).transform_point(Point::new(x, y)))
+    MzPoint::from(Transform::from(t).transform_point(Point::new(x, y)))
 }
 
 pub fn mz_transform_vector(t: MzTransform, x: f32, y: f32) -> MzPoint
     ensures { result ≡ point_in_c (moved_vector (out_of_c t) (point_of x y)) }
 {
-    mz_point(transform_of(t).transform_vector(Point::new(x, y)))
+    MzPoint::from(Transform::from(t).transform_vector(Point::new(x, y)))
 }

@@ -1,4 +1,5 @@
 // The archive that C programs link (bindings/mosszephyr.h): a function of the crate mosszephyr under its own name, and what it promises said again.
+// Twice, since C wants each name exported, a crate is a library or an archive and not both, and a contract stands only at its own function.
 #![tactic(auto)]
 
 ghost use Rattle.std.specs.Prelude.{◌≡◌};

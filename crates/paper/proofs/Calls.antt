@@ -3,10 +3,10 @@ use Prim.Native.Nat.{ℕ, zero, suc, ◌≤◌, ◌<◌}
 use mathlib.Core.Path.{◌≡◌, refl, sym, ap, ◌∙◌}
 use mathlib.Core.Bool.{Bool, true, false}
 use mathlib.Core.List.{List}
-use mathlib.Core.Option.{Option, none, some}
 use mathlib.Core.Logic.{◌↔◌, ◌⊎◌, inl, inr}
 use native.Mathlib.Omega.{arith}
 use native.Mathlib.Decide.{dec_lt, ℕ_discrete}
+use Rattle.std.specs.Prelude.{Option, None, Some}
 use lib.ListN.{length, get_or, replicate, length-replicate}
 use Rattle.command.specs.declared.Command.{Command}
 use Rattle.label.specs.declared.Label.{Label}
@@ -64,7 +64,7 @@ module _ (bands : List Label) (l : Label) (s mask words : List ℕ) where
   -- a path, by the test whether a band is full
   abbrev by_test : List Command → Bool → Outcome
   by_test cs t =
-      let full : Option ℕ = elim t [ true ↦ some (first_of (length words) cs bands) | false ↦ none ] in
+      let full : Option ℕ = elim t [ true ↦ Some (first_of (length words) cs bands) | false ↦ None ] in
       inked full l cs mask words
 
   pub by_full : (cs : List Command) → size ≡ 0 → read ≡ path cs → one_full (length words) cs bands ≡ true

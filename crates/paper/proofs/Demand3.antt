@@ -7,11 +7,10 @@ use native.Mathlib.Omega.{arith}
 use borrow.Author.Tests.{eq-eqb}
 use lib.ListN.{length, get_or}
 use Rattle.label.specs.declared.Label.{Label}
-use Rattle.label.specs.declared.Answer.{Answer}
-use Rattle.label.specs.declared.Answer.TheVariants.{Drawn, Refused}
+use Rattle.path.specs.Refusals.{refused_at}
 use Rattle.label.specs.declared.Numbers.{Numbers}
 use Rattle.label.specs.Draw as label
-use Rattle.label.specs.Draw.{numbers_of, draw_of}
+use Rattle.label.specs.Draw.{Answer, drawn_with, numbers_of, draw_of}
 use Rattle.sweep.specs.Masks as masks
 use Rattle.claims.specs.Bands as claims
 use Rattle.claims.proofs.Bands as claimed
@@ -25,13 +24,13 @@ use Rattle.paper.proofs.Demand1.{demand1}
 use Rattle.paper.proofs.Draws.{told, draws, draws_in_bands}
 use Rattle.paper.proofs.Back.{refusal_of, answer_of, drawn_back}
 
--- ---- a number 0 is an answer Drawn
+-- ---- a number 0 is the answer of a label that was drawn
 abbrev drawn_by : Numbers → Answer
-drawn_by n = Drawn n.records n.cells n.cut
+drawn_by n = drawn_with n.records n.cells n.cut
 
 drawn_answer : (n : Numbers) → n.number ≡ 0 → answer_of n ≡ drawn_by n
 drawn_answer n e =
-    ap (λ (b : Bool). cond b (drawn_by n) (Refused (refusal_of n.number) n.index))
+    ap (λ (b : Bool). cond b (drawn_by n) (refused_at (refusal_of n.number) n.index))
     (eq-eqb n.number 0 e)
 
 drawn_of : (l : Label) (s mask words : List ℕ) → number (draw l s mask words) ≡ 0

@@ -3,16 +3,14 @@ use Prim.Native.Nat.{ℕ, zero, suc, ◌+◌, ◌-◌, ◌*◌, ◌≤◌, max}
 use mathlib.Core.Path.{◌≡◌, refl, sym, ap, ◌∙◌}
 use mathlib.Core.Bool.{Bool, true, false, cond, ◌&&◌, ◌||◌}
 use mathlib.Core.List.{List, [], ◌∷◌}
-use mathlib.Core.Option.{Option, none, some}
 use borrow.Author.Tests.{ltb-false}
 use lib.Dec.{ltb}
 use lib.ListN.{length}
 use Rattle.command.specs.declared.Command.{Command}
 use Rattle.storage.specs.Deposits as held
-use Rattle.path.specs.declared.Verdict.{Verdict}
-use Rattle.path.specs.declared.Verdict.TheVariants.{Fine, Faulty}
+use Rattle.std.specs.Prelude.{Option, None, Some, ⊤, Result, Ok, Err}
+use Rattle.path.specs.declared.Refusal.{Refusal}
 use Rattle.path.specs.declared.Refusal.TheVariants.{Size, Band, Pitch, Mask, Workspace}
-use Rattle.label.specs.declared.Answer.{Answer}
 use Rattle.label.specs.declared.Numbers.{Numbers}
 use Rattle.sweep.specs.Masks.{mask_from}
 use Rattle.path.specs.Inputs.{inputs_of}
@@ -21,11 +19,11 @@ use Rattle.placing.specs.Placing.{unless_faulty, read_checked}
 use Rattle.label.specs.declared.Label.{Label}
 use Rattle.label.specs.Checks.{sizes_of, and_then, checked_of}
 use Rattle.label.specs.Draw as label
-use Rattle.label.specs.Draw.{numbers_of, log_of, too_many, room_for, ran_out, drawn_from, checked_draw, draw_by, draw_of}
+use Rattle.label.specs.Draw.{Answer, numbers_of, log_of, too_many, room_for, ran_out, drawn_from, checked_draw, draw_by, draw_of}
 use Rattle.claims.specs.Bands.{band_of}
 use Rattle.bands.specs.InBands.{band_end, too_many_from, room_from, ran_out_in_band, draw_in_bands_of}
 use Rattle.paper.specs.Steps.{most_bands}
-use Rattle.paper.specs.TurnedAway.{rows, most_pixels, size_fault, Read, path, read_list}
+use Rattle.paper.specs.TurnedAway.{rows, most_pixels, size_fault, Read, read_list}
 use Rattle.paper.specs.Cells.{cells_of, distinct}
 use Rattle.paper.specs.Bytes.{painted}
 use Rattle.paper.specs.Drawing.{Outcome, left, refused, pool, full, one_full, record_of, first_of, thirteen, inked, draw_read, draw_in, draw, band, bands_from, draw_in_bands}
@@ -57,7 +55,7 @@ full_held : (words : ℕ) (l : Label) (cs : List Command) → l.width ≤ most_p
 full_held words l cs w h = ap (λ (n : ℕ). ltb (pool l words) n) (count_held l cs w h)
 
 -- 13 and its record, by a test
-by_test : (t : Bool) (i : ℕ) → (elim t as (λ _. Option ℕ) [ true ↦ some i | false ↦ none ]) ≡ label.thirteen t i
+by_test : (t : Bool) (i : ℕ) → (elim t as (λ _. Option ℕ) [ true ↦ Some i | false ↦ None ]) ≡ label.thirteen t i
 by_test true i = refl
 by_test false i = refl
 
@@ -71,8 +69,8 @@ module _ (bands : List Label) (asked : List Command → Option ℕ) (l : Label) 
   inked_by : (t : Option ℕ) (cs : List Command) → l.width ≤ most_pixels → AllPassed l.transform l.offset cs
       → inked t l cs mask words ≡ told (label.inked t l mask words cs)
   unfolding inked label.inked
-  inked_by (some i) cs w h = refl
-  inked_by none cs w h = rw (count_held l cs w h, cut_held l.transform l.offset cs, paint_held l mask cs w h)
+  inked_by (Some i) cs w h = refl
+  inked_by None cs w h = rw (count_held l cs w h, cut_held l.transform l.offset cs, paint_held l mask cs w h)
 
   inked_held : (cs : List Command) → l.width ≤ most_pixels → AllPassed l.transform l.offset cs
       → inked (thirteen (length words) cs bands) l cs mask words ≡ told (label.inked (asked cs) l mask words cs)
@@ -86,11 +84,11 @@ module _ (bands : List Label) (asked : List Command → Option ℕ) (l : Label) 
   read_drawn (reading.path cs) w h = inked_held cs w h
 
   -- ---- 6 and 7, then the records
-  checked_is : (v : Verdict) (s : List ℕ)
+  checked_is : (v : Result ⊤ Refusal) (s : List ℕ)
       → checked_draw asked v l s mask words ≡ drawn_from asked l mask words (unless_faulty v (reading.read_list l.transform l.offset s))
   unfolding checked_draw drawn_from
-  checked_is Fine s = refl
-  checked_is (Faulty why) s = refl
+  checked_is (Ok u) s = refl
+  checked_is (Err why) s = refl
 
   list_drawn : (s : List ℕ) → l.width ≤ most_pixels
       → draw_read bands l (read_list l.transform l.offset s) mask words
@@ -105,14 +103,14 @@ module _ (bands : List Label) (asked : List Command → Option ℕ) (l : Label) 
       ∙ ap told (sym (checked_is (inputs_of l.transform l.offset (length s)) s))
 
   -- ---- 1 to 5 first
-  sizes_picked : (a b c d e : Bool) (v : Verdict) (s : List ℕ) (x : Outcome)
+  sizes_picked : (a b c d e : Bool) (v : Result ⊤ Refusal) (s : List ℕ) (x : Outcome)
       → (a ≡ false → x ≡ told (checked_draw asked v l s mask words))
       → (elim (cond {A = ℕ} a 1 (cond b 2 (cond c 3 (cond d 4 (cond e 5 0))))) as (λ _. Outcome) [
         | zero ↦ x
         | suc fault ↦ refused (suc fault) 0 mask words
       ])
       ≡ told (checked_draw asked
-      (and_then (cond a (Faulty Size) (cond b (Faulty Band) (cond c (Faulty Pitch) (cond d (Faulty Mask) (cond e (Faulty Workspace) Fine))))) v) l s mask words)
+      (and_then (cond a (Err Size) (cond b (Err Band) (cond c (Err Pitch) (cond d (Err Mask) (cond e (Err Workspace) (Ok tt)))))) v) l s mask words)
   unfolding checked_draw
   sizes_picked true b c d e v s x h = refl
   sizes_picked false true c d e v s x h = refl
@@ -147,7 +145,7 @@ asked_once l words cs w h =
     alone (full words cs l) (record_of words cs l) ∙ rw (full_held words l cs w h, record_held l w words cs h)
   where
     alone : (b : Bool) (i : ℕ)
-        → (elim (b || false) as (λ _. Option ℕ) [ true ↦ some (elim b [ true ↦ i | false ↦ 0 ]) | false ↦ none ]) ≡ label.thirteen b i
+        → (elim (b || false) as (λ _. Option ℕ) [ true ↦ Some (elim b [ true ↦ i | false ↦ 0 ]) | false ↦ None ]) ≡ label.thirteen b i
     alone true i = refl
     alone false i = refl
 

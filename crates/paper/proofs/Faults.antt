@@ -4,8 +4,8 @@ use mathlib.Core.Path.{◌≡◌, refl}
 use mathlib.Core.Bool.{Bool, true, false, not, cond, ◌&&◌, ◌||◌}
 use mathlib.Core.List.{List, [], ◌∷◌}
 use mathlib.Core.Logic.{◌⊎◌, inl, inr}
-use mathlib.Core.Option.{Option, none, some}
 use native.Mathlib.Omega.{arith}
+use Rattle.std.specs.Prelude.{Option, None, Some}
 use lib.Dec.{ltb, eqb}
 use lib.ListN.{length, drop}
 use lib.Ieee.Scale.{finite}
@@ -97,8 +97,8 @@ from_listed zero t o i prior s = tt
 from_listed (suc n) t o i prior [] = tt
 from_listed (suc n) t o i prior (b ∷ bs) =
     go (record_fault t o i prior (b ∷ bs)) (record-most t o i prior (b ∷ bs) (record_fault t o i prior (b ∷ bs)) refl)
-    (read_from n t o (i + 1) (some (command_in (b ∷ bs))) (drop (length_in (b ∷ bs) + 2) (b ∷ bs)))
-    (from_listed n t o (i + 1) (some (command_in (b ∷ bs))) (drop (length_in (b ∷ bs) + 2) (b ∷ bs)))
+    (read_from n t o (i + 1) (Some (command_in (b ∷ bs))) (drop (length_in (b ∷ bs) + 2) (b ∷ bs)))
+    (from_listed n t o (i + 1) (Some (command_in (b ∷ bs))) (drop (length_in (b ∷ bs) + 2) (b ∷ bs)))
   where
     go : (k : ℕ) → (0 < k → Recorded k) → (r : Read) → ListedRead r
         → ListedRead (elim k as (λ _. Read) [ zero ↦ before (command_in (b ∷ bs)) r | suc fault ↦ faulty (suc fault) i ])
@@ -115,4 +115,4 @@ pub list_listed : (t : Transform) (o : Point) (s : List ℕ) → ListedRead (rea
 unfolding read_list input_fault
 list_listed t o s = first_of_two
     (not (all_finite t && (finite o.x && finite o.y))) (ltb 65536 (length s))
-    (read_from (length s + 1) t o 0 none s) (from_listed (length s + 1) t o 0 none s)
+    (read_from (length s + 1) t o 0 None s) (from_listed (length s + 1) t o 0 None s)

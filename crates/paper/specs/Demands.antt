@@ -2,9 +2,8 @@
 -- promise the values for whatever they are given. proofs/Demand1.antt, Demand2.antt and Demand3.antt prove them;
 -- proofs/Promised.antt takes 1 and 2 to the promises of drawing, and by proofs/OneOutcome.antt no two outcomes satisfy
 -- a promise.
-use Rattle.std.specs.Prelude.{ℕ, ◌+◌, ◌-◌, ◌*◌, ◌≤◌, ◌<◌, min, max, ◌≡◌, true, false, cond, ◌&&◌, ◌↔◌, ◌⊎◌, length, get_or, take, pos, Float}
+use Rattle.std.specs.Prelude.{ℕ, ◌+◌, ◌-◌, ◌*◌, ◌≤◌, ◌<◌, min, max, ◌≡◌, true, false, cond, ◌&&◌, ◌↔◌, ◌⊎◌, length, get_or, take, pos, Float, Option, None, Some}
 use mathlib.Core.List.{List, [], ◌∷◌, flatten}
-use Rattle.std.proofs.Math.Option.{Option, none, some}
 use Rattle.std.specs.Float.{nan, inf, fin}
 use Rattle.std.specs.Float.Ieee.{up, down}
 use Rattle.geometry.specs.declared.Point.{Point}
@@ -93,7 +92,7 @@ pub record EveryCall (drawing : Drawing) (Full : Label → ℕ → List Command 
 -- no command of a path, behind the command `prior`, draws directly after Close
 unfoldable pub Apart : Option Command → List Command → Type 0
 Apart prior [] = Unit {0}
-Apart prior (c ∷ cs) = ((after_close prior && draws c) ≡ false) × Apart (some c) cs
+Apart prior (c ∷ cs) = ((after_close prior && draws c) ≡ false) × Apart (Some c) cs
 
 abbrev pub TooMany : Label → ℕ → List Command → Type 0  -- drawn at once, with so many words
 TooMany l words cs = pool l words < distinct (cells_of l cs)
@@ -127,7 +126,7 @@ pub record Demand1 : Type 0 where
   pub runs_out : (l : Label) (words : ℕ) (cs : List Command) → l.width ≤ most_pixels
       → TooMany l words cs ↔ (i : ℕ) × RunsOut l words cs i
   -- what is read as a path has no drawing after Close
-  pub apart : (t : Transform) (o : Point) (s : List ℕ) (cs : List Command) → read_list t o s ≡ path cs → Apart none cs
+  pub apart : (t : Transform) (o : Point) (s : List ℕ) (cs : List Command) → read_list t o s ≡ path cs → Apart None cs
   -- bounds and placements know 6 to 12 and 18 alone, as the list is read
   pub boxes : (t : Transform) (s : List ℕ) (n i : ℕ) → 1 ≤ n
       → ((bounds t s).number ≡ n) × ((bounds t s).index ≡ i) ↔ read_list t origin s ≡ faulty n i

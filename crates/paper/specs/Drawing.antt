@@ -1,6 +1,5 @@
 -- docs/RULES.md, "When a label is turned away": 13; "What a call leaves"; "In bands".
-use Rattle.std.specs.Prelude.{ℕ, zero, suc, ◌+◌, ◌-◌, ◌/◌, min, max, Bool, true, false, ◌||◌, List, [], ◌∷◌, ◌++◌, length, replicate, ltb}
-use Rattle.std.proofs.Math.Option.{Option, none, some}
+use Rattle.std.specs.Prelude.{ℕ, zero, suc, ◌+◌, ◌-◌, ◌/◌, min, max, Bool, true, false, ◌||◌, List, [], ◌∷◌, ◌++◌, length, replicate, ltb, Option, None, Some}
 use Rattle.command.specs.declared.Command.{Command}
 use Rattle.label.specs.declared.Label.{Label}
 use Rattle.label.specs.declared.Numbers.{Numbers}
@@ -62,12 +61,12 @@ first_of words cs (band ∷ bands) =
     elim (full words cs band) [ true ↦ record_of words cs band | false ↦ first_of words cs bands ]
 
 abbrev pub thirteen : ℕ → List Command → List Label → Option ℕ  -- 13 with its record, where a band is full
-thirteen words cs bands = elim (one_full words cs bands) [ true ↦ some (first_of words cs bands) | false ↦ none ]
+thirteen words cs bands = elim (one_full words cs bands) [ true ↦ Some (first_of words cs bands) | false ↦ None ]
 
 -- the path's cells painted, or 13, its record and the mask as it was; the words are wiped either way
 unfoldable pub inked : Option ℕ → Label → List Command → List ℕ → List ℕ → Outcome
-inked (some index) l cs mask words = refused 13 index mask (wiped words)
-inked none l cs mask words =
+inked (Some index) l cs mask words = refused 13 index mask (wiped words)
+inked None l cs mask words =
     let cut = cut_in l.transform l.offset cs in
     accepted (length cs) (distinct (cells_of l cs)) cut (painted l (cells_of l cs) 0 mask) (wiped words)
 

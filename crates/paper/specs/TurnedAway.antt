@@ -1,6 +1,5 @@
 -- docs/RULES.md, "When a label is turned away": 1 to 12 and 18. A fault is its number, and 0 is none.
-use Rattle.std.specs.Prelude.{ℕ, zero, suc, ◌+◌, ◌-◌, ◌*◌, Bool, true, false, not, cond, ◌&&◌, ◌||◌, List, [], ◌∷◌, length, drop, ltb, eqb}
-use Rattle.std.proofs.Math.Option.{Option, none, some}
+use Rattle.std.specs.Prelude.{ℕ, zero, suc, ◌+◌, ◌-◌, ◌*◌, Bool, true, false, not, cond, ◌&&◌, ◌||◌, List, [], ◌∷◌, length, drop, ltb, eqb, Option, None, Some}
 use Rattle.std.specs.Float.Ieee.Scale.{finite}
 use Rattle.geometry.specs.declared.Point.{Point}
 use Rattle.geometry.specs.declared.Transform.{Transform}
@@ -43,12 +42,12 @@ all_pass t o (p ∷ ps) = passes (shifted o (moved t p)) && all_pass t o ps
 
 -- directly after Close: there is a command before, and it is Close
 abbrev pub after_close : Option Command → Bool
-after_close none = false
-after_close (some (MoveTo p)) = false
-after_close (some (LineTo p)) = false
-after_close (some (QuadTo c p)) = false
-after_close (some (CurveTo c1 c2 p)) = false
-after_close (some Close) = true
+after_close None = false
+after_close (Some (MoveTo p)) = false
+after_close (Some (LineTo p)) = false
+after_close (Some (QuadTo c p)) = false
+after_close (Some (CurveTo c1 c2 p)) = false
+after_close (Some Close) = true
 
 abbrev pub draws : Command → Bool  -- LineTo, QuadTo and CurveTo draw
 draws (MoveTo p) = false
@@ -85,13 +84,13 @@ read_from (suc n) t o i prior [] = path []
 read_from (suc n) t o i prior (b ∷ bs) =
     let c = command_in (b ∷ bs) in
     elim (record_fault t o i prior (b ∷ bs)) [
-      | zero ↦ before c (read_from n t o (i + 1) (some c) (drop (length_in (b ∷ bs) + 2) (b ∷ bs)))
+      | zero ↦ before c (read_from n t o (i + 1) (Some c) (drop (length_in (b ∷ bs) + 2) (b ∷ bs)))
       | suc fault ↦ faulty (suc fault) i
     ]
 
 unfoldable pub read_list : Transform → Point → List ℕ → Read  -- 6 to 12 and 18; the index of 6 and 7 is 0
 read_list t o s =
     elim (input_fault t o (length s)) [
-      | zero ↦ read_from (most_records s) t o 0 none s
+      | zero ↦ read_from (most_records s) t o 0 None s
       | suc fault ↦ faulty (suc fault) 0
     ]

@@ -9,13 +9,14 @@ ghost use Rattle.paper.specs.Placing as placings;
 
 use geometry::{Origin, Point, Transform};
 use label::{Label, Numbers};
+use path::View;
 use placing::{BoxNumbers, PlaceNumbers};
 
 // Draws a label's band.
 pub fn draw(list: &[u8], l: Label, mask: &mut [u8], words: &mut [u32]) -> Numbers
     ensures { left result mask.new words.new ≡ drawing.draw l list.now mask.old words.old }
 {
-    label::numbers_of(label::draw(list, l, mask, words))
+    label::draw(list, l, mask, words).into()
 }
 
 // Draws it in bands of so many rows.
@@ -28,19 +29,23 @@ pub fn draw_in_bands(
 ) -> Numbers
     ensures { left result mask.new words.new ≡ drawing.draw_in_bands step l list.now mask.old words.old }
 {
-    label::numbers_of(bands::draw_in_bands(list, l, step, mask, words))
+    bands::draw_in_bands(list, l, step, mask, words).into()
 }
 
 // The box of a list's points.
 pub fn bounds(list: &[u8], t: Transform) -> BoxNumbers
     ensures { result ≡ placings.bounds t list.now }
 {
-    placing::box_numbers(placing::bounds(list, t))
+    placing::bounds(list, t).into()
 }
 
 // Where its mask lies.
 pub fn placement(list: &[u8], t: Transform, o: Point, origin: Origin) -> PlaceNumbers
     ensures { result ≡ placings.placement origin t o list.now }
 {
-    placing::place_numbers(placing::placement(list, t, o, origin))
+    let view = View {
+        transform: t,
+        offset: o,
+    };
+    placing::placement(list, view, origin).into()
 }

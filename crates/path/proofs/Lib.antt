@@ -1,5 +1,5 @@
 pub mod Points
 pub mod Walk
+pub mod Telling
 pub mod Tracking
-pub mod Finite
 pub mod Pouring

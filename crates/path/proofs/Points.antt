@@ -1,33 +1,27 @@
 -- The points of a command: how they are ruled one after the other, and that their fixed points are within reach.
 use Prim.Native.Nat.{ℕ, ◌+◌, ◌*◌, ◌≤◌}
 use mathlib.Core.Path.{◌≡◌, refl, ap}
-use mathlib.Core.Bool.{Bool, true, false, not, cond, ◌&&◌}
+use mathlib.Core.Bool.{Bool, true, false, cond, ◌&&◌}
 use mathlib.Core.List.{List, [], ◌∷◌, ◌++◌}
 use native.Mathlib.Omega.{arith}
-use lib.Dec.{eqb, lit≤}
+use lib.Dec.{lit≤}
 use lib.ListN.{length}
-use borrow.Author.Tests.{eq-eqb, ne_eqb}
 use Rattle.geometry.specs.declared.Point.{Point}
 use Rattle.geometry.specs.declared.Transform.{Transform}
-use Rattle.fixed.specs.declared.FixedPoint.{FixedPoint}
-use Rattle.fixed.specs.declared.Spot.TheVariants as spot
+use Rattle.std.specs.Prelude.{None, Some}
+use Rattle.fixed.specs.declared.Spot.{Spot}
 use Rattle.fixed.specs.Fixed.{cut_parts}
 use Rattle.fixed.proofs.Cuts.{spot_cuts, two_parts}
 use Rattle.fixed.proofs.Range.{spot_within}
 use Rattle.line.specs.Range.{Reach}
 use Rattle.command.specs.declared.Command.{Command}
 use Rattle.command.specs.declared.Command.TheVariants.{MoveTo, LineTo, QuadTo, CurveTo, Close}
-use Rattle.command.specs.Commands.{is_move, draws, points_of}
+use Rattle.command.specs.Commands.{points_of}
 use Rattle.raster.specs.Path.{corner}
-use Rattle.path.specs.declared.Verdict.TheVariants.{Fine, Faulty}
-use Rattle.path.specs.declared.Refusal.TheVariants.{First, Outside, AfterClose}
-use Rattle.path.specs.declared.Ruling.{Ruling}
-use Rattle.path.specs.declared.Ruling.TheVariants as ruling
-use Rattle.path.specs.Reading.{place_of, spot_at, passed, all_pass, cuts_at, verdict_of, ruled, points_ruled, both_ruled, Few}
+use Rattle.std.specs.Prelude.{Ok, Err}
+use Rattle.path.specs.declared.Refusal.TheVariants.{Outside}
+use Rattle.path.specs.Reading.{place_of, spot_at, passed, all_pass, cuts_at, ruled, points_ruled, both_ruled, Few}
 use Rattle.path.specs.Strokes.{fixed_at}
-
-pub few_of : (r : Ruling) (n : ℕ) → r ≡ ruling.Cuts n → Few r → n ≤ 6
-few_of r n e h = rw e at h
 
 module _ (t : Transform) (o : Point) where
   -- ---- one list of points behind another
@@ -55,7 +49,7 @@ module _ (t : Transform) (o : Point) where
       n : ℕ
       n = cuts_at t o qs
 
-      go : (a b : Bool) → both_ruled (ruled (cond a Fine (Faulty Outside)) m) (ruled (cond b Fine (Faulty Outside)) n) ≡ ruled (cond (a && b) Fine (Faulty Outside)) (m + n)
+      go : (a b : Bool) → both_ruled (ruled (cond a (Ok tt) (Err Outside)) m) (ruled (cond b (Ok tt) (Err Outside)) n) ≡ ruled (cond (a && b) (Ok tt) (Err Outside)) (m + n)
       go true true = refl
       go true false = refl
       go false b = refl
@@ -69,7 +63,7 @@ module _ (t : Transform) (o : Point) where
   pub few_points : (ps : List Point) → length ps ≤ 3 → Few (points_ruled t o ps)
   few_points ps h = go (all_pass t o ps)
     where
-      go : (b : Bool) → Few (ruled (cond b Fine (Faulty Outside)) (cuts_at t o ps))
+      go : (b : Bool) → Few (ruled (cond b (Ok tt) (Err Outside)) (cuts_at t o ps))
       go true = omega (arith, cuts_few ps)
       go false = tt
 
@@ -82,64 +76,29 @@ module _ (t : Transform) (o : Point) where
   few_cuts Close = omega (arith, cuts_few [])
 
   -- ---- no point, and one
-  pub no_points : ruling.Cuts 0 ≡ points_ruled t o []
+  pub no_points : Ok 0 ≡ points_ruled t o []
   unfolding all_pass cuts_at
   no_points = refl
 
-  pub point_passes : (p : Point) (q : FixedPoint) (n : ℕ) → spot_at t o p ≡ spot.At q n → ruling.Cuts n ≡ points_ruled t o (p ∷ [])
+  pub point_passes : (p : Point) (s : Spot) → spot_at t o p ≡ Some s → Ok s.cuts ≡ points_ruled t o (p ∷ [])
   unfolding all_pass cuts_at
-  point_passes p q n e =
-      let c : n ≡ cut_parts (place_of t o p) = unfold spot_at in spot_cuts (place_of t o p) q n e in
-      let z : n ≡ cut_parts (place_of t o p) + 0 = omega arith in
-      rw e (ap ruling.Cuts z)
+  point_passes p s e =
+      let c : s.cuts ≡ cut_parts (place_of t o p) = unfold spot_at in spot_cuts (place_of t o p) s.point s.cuts e in
+      let z : s.cuts ≡ cut_parts (place_of t o p) + 0 = omega arith in
+      rw e (ap Ok z)
 
-  pub point_strays : (p : Point) → spot_at t o p ≡ spot.Outside → ruling.Faulty Outside ≡ points_ruled t o (p ∷ [])
+  pub point_strays : (p : Point) → spot_at t o p ≡ None → Err Outside ≡ points_ruled t o (p ∷ [])
   unfolding all_pass
   point_strays p e = rw e
-
-  module _ (i : ℕ) (closed : Bool) (k : Command) where
-    pub no_move : i ≡ 0 → is_move k ≡ false → ruling.Faulty First ≡ ruled (verdict_of t o i closed k) (cuts_at t o (points_of k))
-    unfolding verdict_of
-    no_move z m = rw (eq-eqb i 0 z, m)
-
-    -- 11 does not refuse
-    pub record Begins : Type 0 where
-      pub fair : (eqb i 0 && not (is_move k)) ≡ false
-
-    pub begins_move : i ≡ 0 → is_move k ≡ true → Begins
-    begins_move z m = record { fair = rw (eq-eqb i 0 z, m) }
-
-    pub begins_later : (i ≡ 0 → ⊥) → Begins
-    begins_later z = record { fair = rw (ne_eqb i 0 z) }
-
-    pub draws_on : Begins → closed ≡ true → draws k ≡ true → ruling.Faulty AfterClose ≡ ruled (verdict_of t o i closed k) (cuts_at t o (points_of k))
-    unfolding verdict_of
-    draws_on b e d = rw (b.fair, e, d)
-
-    -- nor does 18
-    pub record Follows : Type 0 where
-      pub begins : Begins
-      pub apart : (closed && draws k) ≡ false
-
-    pub follows_open : Begins → closed ≡ false → Follows
-    follows_open b e = record { begins = b; apart = rw e }
-
-    pub follows_close : Begins → closed ≡ true → draws k ≡ false → Follows
-    follows_close b e d = record { begins = b; apart = rw (e, d) }
-
-    -- what is left is the point rule
-    pub follows : Follows → points_ruled t o (points_of k) ≡ ruled (verdict_of t o i closed k) (cuts_at t o (points_of k))
-    unfolding verdict_of
-    follows b = rw (b.begins.fair, b.apart)
 
 -- ---- within reach
 pub corner_near : Reach corner
 corner_near = record { x_low = lit≤ tt; x_high = lit≤ tt; y_low = lit≤ tt; y_high = lit≤ tt }
 
-pub spot_near : (t : Transform) (o p : Point) (q : FixedPoint) (n : ℕ) → spot_at t o p ≡ spot.At q n → Reach q
+pub spot_near : (t : Transform) (o p : Point) (s : Spot) → spot_at t o p ≡ Some s → Reach s.point
 unfolding spot_at
-spot_near t o p q n e =
-    let w = spot_within (place_of t o p) q n e in
+spot_near t o p s e =
+    let w = spot_within (place_of t o p) s.point s.cuts e in
     record {
       x_low = omega (arith, w.x_in.low);
       x_high = omega (arith, w.x_in.high);
@@ -147,10 +106,10 @@ spot_near t o p q n e =
       y_high = omega (arith, w.y_in.high);
     }
 
-pub fixed_in : (t : Transform) (o p : Point) (q : FixedPoint) (n : ℕ) → spot_at t o p ≡ spot.At q n → q ≡ fixed_at t o p
+pub fixed_in : (t : Transform) (o p : Point) (s : Spot) → spot_at t o p ≡ Some s → s.point ≡ fixed_at t o p
 unfolding fixed_at
-fixed_in t o p q n e = rw e
+fixed_in t o p s e = rw e
 
-pub fixed_out : (t : Transform) (o p : Point) → spot_at t o p ≡ spot.Outside → corner ≡ fixed_at t o p
+pub fixed_out : (t : Transform) (o p : Point) → spot_at t o p ≡ None → corner ≡ fixed_at t o p
 unfolding fixed_at
 fixed_out t o p e = rw e

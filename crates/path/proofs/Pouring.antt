@@ -1,5 +1,5 @@
 -- From lent words to what a list stores: the heads are cleared, so that the words hold nothing, and the strokes are stored.
-use Prim.Native.Nat.{ℕ, ◌+◌, ◌*◌, ◌-◌, ◌≤◌}
+use Prim.Native.Nat.{ℕ, ◌-◌}
 use mathlib.Core.Path.{◌≡◌, ap, ◌∙◌}
 use mathlib.Core.List.{List, [], ◌++◌}
 use native.Mathlib.Omega.{arith}
@@ -9,17 +9,16 @@ use Rattle.geometry.specs.declared.Transform.{Transform}
 use Rattle.storage.specs.Deposits.{Deposit}
 use Rattle.storage.specs.Cells.{Holds}
 use Rattle.storage.proofs.Pools.{cleared}
-use Rattle.pen.specs.Drawing.{rows as frameRows, width as frameWidth, Ready}
-use Rattle.path.specs.declared.Pool.{Pool}
+use Rattle.pen.specs.declared.boards.Board.{Board}
+use Rattle.pen.specs.Drawing.{rows as frameRows, width as frameWidth}
+use Rattle.std.specs.Prelude.{Result}
+use Rattle.path.specs.declared.Overfull.{Overfull}
 use Rattle.path.specs.Storing.{Filled}
 use Rattle.path.specs.Pouring.{pool_of, frame_of, Fits, Traced, Poured}
 
-moved : (ws : List ℕ) {n n' w w' : ℕ} (cap : ℕ) (log : List Deposit) (each : List (List Deposit)) (r : Pool) → n ≡ n' → w ≡ w'
+moved : (ws : List ℕ) {n n' w w' : ℕ} (cap : ℕ) (log : List Deposit) (each : List (List Deposit)) (r : Result ℕ Overfull) → n ≡ n' → w ≡ w'
     → Filled ws n w cap log each r → Filled ws n' w' cap log each r
 moved ws cap log each r p q h = rw (← p, ← q) h
-
-pub pool_fits : (rows words : ℕ) → rows ≤ words → rows + 4 * pool_of rows words ≤ words
-pool_fits rows words h = omega arith
 
 module _ (width first end : ℕ) (ws : List ℕ) (z : Fits width first end (length ws)) where
   abbrev rows : ℕ
@@ -31,29 +30,16 @@ module _ (width first end : ℕ) (ws : List ℕ) (z : Fits width first end (leng
   same_width : frameWidth (frame_of width first end) ≡ width
   same_width = omega arith
 
-  module _ (ws' : List ℕ) (cap : ℕ) (p : cap ≡ pool_of rows (length ws)) (e : ws' ≡ replicate rows 0 ++ drop rows ws) where
+  module _ (ws' : List ℕ) (board : Board) (f : board.frame ≡ frame_of width first end) (p : board.cap ≡ pool_of rows (length ws)) (e : ws' ≡ replicate rows 0 ++ drop rows ws) where
     cleared_long : length ws' ≡ length ws
     cleared_long =
         let h = z.heads in
         ap length e ∙ simp (length-append, length-replicate, length-drop) (omega arith)
 
-    pub ready : Ready (frame_of width first end) cap ws'
-    ready =
-        let long = cleared_long in
-        let fits = pool_fits rows (length ws) z.heads in
-        record {
-          right = omega arith;
-          narrow = omega (arith, z.narrow);
-          ordered = omega (arith, z.ordered);
-          few = omega (arith, z.low, z.ordered);
-          small = omega arith;
-          fits = omega (arith, z.ordered);
-        }
-
     none_yet : (n w : ℕ) → n ≡ rows → Holds ws' n w 0 []
     none_yet n w r = rw (r, e) (cleared (drop rows ws) rows w)
 
-    pub poured : (t : Transform) (o : Point) (s ws'' : List ℕ) (r : Pool) → Traced (frame_of width first end) cap ws' ws'' t o s r
+    pub poured : (t : Transform) (o : Point) (s ws'' : List ℕ) (r : Result ℕ Overfull) → Traced board ws' ws'' t o s r
         → Poured t o width first end s ws ws'' r
     poured t o s ws'' r d =
         record {
@@ -61,6 +47,6 @@ module _ (width first end : ℕ) (ws : List ℕ) (z : Fits width first end (leng
           same = d.same ∙ cleared_long;
           stored = λ cs a.
               rw (← p)
-              (moved ws'' cap _ _ r same_rows same_width
-              (d.stored cs a (none_yet (frameRows (frame_of width first end)) (frameWidth (frame_of width first end)) same_rows)));
+              (moved ws'' board.cap _ _ r same_rows same_width
+              (rw f at (d.stored cs a (none_yet (frameRows board.frame) (frameWidth board.frame) (rw f same_rows)))));
         }

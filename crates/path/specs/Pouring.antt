@@ -1,16 +1,16 @@
 -- docs/RULES.md, "When a label is turned away": the pool, and what a list stores in it. Of the label the width and the
 -- band [first, end) are told.
-use Rattle.std.specs.Prelude.{ℕ, ◌+◌, ◌-◌, ◌/◌, ◌≤◌, min, ◌≡◌, List, [], length}
+use Rattle.std.specs.Prelude.{ℕ, ◌+◌, ◌-◌, ◌/◌, ◌≤◌, min, ◌≡◌, List, [], length, Some, Result}
 use Rattle.geometry.specs.declared.Point.{Point}
 use Rattle.geometry.specs.declared.Transform.{Transform}
 use Rattle.command.specs.declared.Command.{Command}
-use Rattle.storage.specs.declared.Kept.TheVariants.{Cells}
 use Rattle.storage.specs.Answers.{most_rows}
 use Rattle.pen.specs.declared.Frame.{Frame}
+use Rattle.pen.specs.declared.boards.Board.{Board}
 use Rattle.pen.specs.Drawing.{rows, width, Holding}
 use Rattle.raster.specs.Path.{deposits_of}
 use Rattle.path.specs.Reading.{path, read_list}
-use Rattle.path.specs.declared.Pool.{Pool}
+use Rattle.path.specs.declared.Overfull.{Overfull}
 use Rattle.path.specs.Strokes.{strokes_of}
 use Rattle.path.specs.Storing.{stored_by, Within, Filled}
 
@@ -30,14 +30,14 @@ pub record Fits (width first end words : ℕ) : Type 0 where
   pub heads : end - first ≤ words
 
 -- of an accepted list, where the words held nothing: what its strokes store is in them, or is too much for the pool
-pub record Traced (f : Frame) (cap : ℕ) (ws ws' : List ℕ) (t : Transform) (o : Point) (s : List ℕ) (r : Pool) : Type 0 where
-  pub within : Within cap (length s) r
+pub record Traced (board : Board) (ws ws' : List ℕ) (t : Transform) (o : Point) (s : List ℕ) (r : Result ℕ Overfull) : Type 0 where
+  pub within : Within board.cap (length s) r
   pub same : length ws' ≡ length ws
-  pub stored : (cs : List Command) → read_list t o s ≡ path cs → Holding f cap ws (Cells 0) []
-      → Filled ws' (rows f) (width f) cap (deposits_of f (strokes_of t o cs)) (stored_by f (strokes_of t o cs)) r
+  pub stored : (cs : List Command) → read_list t o s ≡ path cs → Holding board.frame board.cap ws (Some 0) []
+      → Filled ws' (rows board.frame) (width board.frame) board.cap (deposits_of board.frame (strokes_of t o cs)) (stored_by board.frame (strokes_of t o cs)) r
 
 -- the same of words that held anything, for a band
-pub record Poured (t : Transform) (o : Point) (width first end : ℕ) (s before after : List ℕ) (r : Pool) : Type 0 where
+pub record Poured (t : Transform) (o : Point) (width first end : ℕ) (s before after : List ℕ) (r : Result ℕ Overfull) : Type 0 where
   pub within : Within (pool_of (end - first) (length before)) (length s) r
   pub same : length after ≡ length before
   pub stored : (cs : List Command) → read_list t o s ≡ path cs

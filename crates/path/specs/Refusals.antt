@@ -1,8 +1,9 @@
 -- docs/RULES.md, "When a label is turned away": the number of each refusal.
-use Rattle.std.specs.Prelude.{ℕ}
+use Rattle.std.specs.Prelude.{ℕ, Result, Err}
 use Rattle.list.specs.declared.Reason.{Reason}
 use Rattle.list.specs.declared.Reason.TheVariants as reason
 use Rattle.path.specs.declared.Refusal.{Refusal}
+use Rattle.path.specs.declared.Refused.{Refused}
 use Rattle.path.specs.declared.Refusal.TheVariants.{Size, Band, Pitch, Mask, Workspace, NotFinite, Long, Cut, Kind, Length, First, Outside, Full, AfterClose}
 
 abbrev pub number_of : Refusal → ℕ
@@ -26,3 +27,11 @@ abbrev pub refusal_of : Reason → Refusal
 refusal_of reason.Cut = Cut
 refusal_of reason.Kind = Kind
 refusal_of reason.Length = Length
+
+-- a refusal for which no record is at fault
+abbrev pub of_no_record : Refusal → Refused
+of_no_record w = record { why = w; «record» = 0 }
+
+-- refused by this, at the record of this index
+abbrev pub refused_at : {A : Type 0} → Refusal → ℕ → Result A Refused
+refused_at w i = Err (record { why = w; «record» = i })

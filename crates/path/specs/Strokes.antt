@@ -1,10 +1,9 @@
 -- The strokes of a path: its commands in fixed numbers.
-use Rattle.std.specs.Prelude.{List, map}
+use Rattle.std.specs.Prelude.{List, map, Option, None, Some}
 use Rattle.geometry.specs.declared.Point.{Point}
 use Rattle.geometry.specs.declared.Transform.{Transform}
 use Rattle.fixed.specs.declared.FixedPoint.{FixedPoint}
 use Rattle.fixed.specs.declared.Spot.{Spot}
-use Rattle.fixed.specs.declared.Spot.TheVariants as spot
 use Rattle.command.specs.declared.Command.{Command}
 use Rattle.command.specs.declared.Command.TheVariants.{MoveTo, LineTo, QuadTo, CurveTo, Close}
 use Rattle.raster.specs.declared.Stroke.{Stroke}
@@ -13,9 +12,9 @@ use Rattle.raster.specs.Path.{corner}
 use Rattle.path.specs.Reading.{spot_at}
 
 -- the fixed point of a spot; the corner for one outside, which no accepted list has
-abbrev pub point_in : Spot → FixedPoint
-point_in (spot.At p n) = p
-point_in spot.Outside = corner
+abbrev pub point_in : Option Spot → FixedPoint
+point_in (Some s) = s.point
+point_in None = corner
 
 unfoldable pub fixed_at : Transform → Point → Point → FixedPoint
 unfolding spot_at

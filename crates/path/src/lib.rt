@@ -2,26 +2,24 @@
 // Also the refusals of the table in docs/RULES.md, which all public answers share.
 #![tactic(auto)]
 
-ghost use Rattle.std.specs.Prelude.{◌≡◌, [], ◌∷◌, ◌≤◌, ◌<◌, length};
+ghost use Rattle.std.specs.Prelude.{◌≡◌, ◌&&◌, [], ◌∷◌, ◌≤◌, ◌<◌, length};
 ghost use Rattle.storage.specs.Answers.{most_rows};
 ghost use Rattle.pen.specs.Drawing.{Ready};
 ghost use Rattle.line.specs.Range.{Reach};
 ghost use Rattle.raster.specs.Tracing.{ReachAll};
-ghost use Rattle.path.specs.Refusals.{number_of, refusal_of};
+ghost use Rattle.path.specs.Refusals.{number_of, of_no_record, refusal_of};
 ghost use Rattle.path.specs.Inputs.{finite_point, finite_transform, inputs_of};
 ghost use Rattle.path.specs.Reading.{spot_at, cuts_at, verdict_of, ruled, points_ruled, both_ruled, Few, read_list, judged_of};
 ghost use Rattle.path.specs.Strokes.{fixed_at, stroke_of};
-ghost use Rattle.path.specs.Storing.{pool_at};
 ghost use Rattle.path.specs.Pouring.{pool_of, frame_of, Fits, Traced, Poured};
 ghost use Rattle.command.specs.Commands.{points_of};
 
 use command::Command;
 use fixed::{FixedPoint, Spot};
 use geometry::{Point, Transform};
-use list::{Reason, Step};
-use pen::Frame;
+use list::{Commands, Reason};
+use pen::{Board, Frame};
 use raster::Stroke;
-use storage::Kept;
 
 // The longest list, in bytes.
 const MOST_BYTES: usize = 65536;
@@ -30,7 +28,7 @@ const MOST_BYTES: usize = 65536;
 const MOST_CELLS: usize = 16384;
 
 // Why a label is turned away.
-#[derive(Clone, Copy)]
+#[derive(Clone, Copy, Debug, PartialEq, Eq)]
 pub enum Refusal {
     // 1: width or height above 4,096.
     Size,
@@ -62,31 +60,56 @@ pub enum Refusal {
     AfterClose,
 }
 
-// A judgement: nothing is at fault, or this is.
-#[derive(Clone, Copy)]
-pub enum Verdict {
-    Fine,
-    Faulty(Refusal),
+// A label turned away, and the index of the record at fault: 0 where none is.
+#[derive(Clone, Copy, Debug, PartialEq, Eq)]
+pub struct Refused {
+    pub why: Refusal,
+    pub record: u32,
 }
 
-pub fn number_of(why: Refusal) -> u32
-    ensures { result ≡ number_of why }
-{
-    match why {
-        Refusal::Size => 1,
-        Refusal::Band => 2,
-        Refusal::Pitch => 3,
-        Refusal::Mask => 4,
-        Refusal::Workspace => 5,
-        Refusal::NotFinite => 6,
-        Refusal::Long => 7,
-        Refusal::Cut => 8,
-        Refusal::Kind => 9,
-        Refusal::Length => 10,
-        Refusal::First => 11,
-        Refusal::Outside => 12,
-        Refusal::Full => 13,
-        Refusal::AfterClose => 18,
+// A refusal for which no record is at fault.
+impl From<Refusal> for Refused {
+    ghost from_gives = { λ why r. r ≡ of_no_record why };
+
+    fn from(why: Refusal) -> Refused {
+        Refused { why, record: 0 }
+    }
+}
+
+// The number of a refusal.
+impl From<Refusal> for u32 {
+    ghost from_gives = { λ why n. n ≡ number_of why };
+
+    fn from(why: Refusal) -> u32 {
+        match why {
+            Refusal::Size => 1,
+            Refusal::Band => 2,
+            Refusal::Pitch => 3,
+            Refusal::Mask => 4,
+            Refusal::Workspace => 5,
+            Refusal::NotFinite => 6,
+            Refusal::Long => 7,
+            Refusal::Cut => 8,
+            Refusal::Kind => 9,
+            Refusal::Length => 10,
+            Refusal::First => 11,
+            Refusal::Outside => 12,
+            Refusal::Full => 13,
+            Refusal::AfterClose => 18,
+        }
+    }
+}
+
+// The refusal of a record that cannot be read.
+impl From<Reason> for Refusal {
+    ghost from_gives = { λ reason why. why ≡ refusal_of reason };
+
+    fn from(reason: Reason) -> Refusal {
+        match reason {
+            Reason::Cut => Refusal::Cut,
+            Reason::Kind => Refusal::Kind,
+            Reason::Length => Refusal::Length,
+        }
     }
 }
 
@@ -96,235 +119,175 @@ fn finite_point(p: Point) -> bool
     float::is_finite(p.x) && float::is_finite(p.y)
 }
 
-fn finite_transform(t: Transform) -> bool
-    ensures { result ≡ finite_transform t }
-{
-    if finite_point(Point { x: t.xx, y: t.xy }) {
-        if finite_point(Point { x: t.yx, y: t.yy }) {
-            return finite_point(Point { x: t.x, y: t.y });
-        }
-    }
-    false
-}
-
-// Checks 6 and 7.
-pub fn check_inputs(t: Transform, o: Point, list: usize) -> Verdict
-    ensures { result ≡ inputs_of t o list }
-{
-    if !finite_transform(t) {
-        return Verdict::Faulty(Refusal::NotFinite);
-    }
-    if !finite_point(o) {
-        return Verdict::Faulty(Refusal::NotFinite);
-    }
-    if MOST_BYTES < list {
-        return Verdict::Faulty(Refusal::Long);
-    }
-    Verdict::Fine
-}
-
-// The refusal of a record that cannot be read.
-fn refusal_of(why: Reason) -> Refusal
-    ensures { result ≡ refusal_of why }
-{
-    match why {
-        Reason::Cut => Refusal::Cut,
-        Reason::Kind => Refusal::Kind,
-        Reason::Length => Refusal::Length,
-    }
-}
-
-// A point under the transform and the offset, by the point rule.
-fn spot_at(t: Transform, o: Point, p: Point) -> Spot
-    ensures { result ≡ spot_at t o p }
-{
-    fixed::from_point(t.transform_point(p).plus(o))
-}
-
-// A record, or points of it: fine, and so many of their coordinates are cut; or at fault.
-#[derive(Clone, Copy)]
-enum Ruling {
-    Cuts(u32),
-    Faulty(Refusal),
-}
-
-fn rule_point(t: Transform, o: Point, p: Point) -> Ruling
-    ensures { result ≡ points_ruled t o (p ∷ []) }
-{
-    match spot_at(t, o, p) {
-        Spot::At { point: _, cuts } => Ruling::Cuts(cuts),
-        Spot::Outside => Ruling::Faulty(Refusal::Outside),
-    }
-}
-
 // Two parts of a record, one behind the other.
-fn both(a: Ruling, b: Ruling) -> Ruling
+fn both(a: Result<u32, Refusal>, b: Result<u32, Refusal>) -> Result<u32, Refusal>
     requires few_a { Few a }
     requires few_b { Few b }
     ensures { result ≡ both_ruled a b }
 {
-    match a {
-        Ruling::Cuts(m) => match b {
-            Ruling::Cuts(n) => Ruling::Cuts(m + n),
-            Ruling::Faulty(why) => Ruling::Faulty(why),
-        },
-        Ruling::Faulty(why) => Ruling::Faulty(why),
+    Ok(a? + b?)
+}
+
+// The transform and the offset that a list's points are seen under: first the one, and then the other.
+#[derive(Clone, Copy, Debug, PartialEq)]
+pub struct View {
+    pub transform: Transform,
+    pub offset: Point,
+}
+
+impl View {
+    fn is_finite(self) -> bool
+        ensures { result ≡ (finite_transform self.transform && finite_point self.offset) }
+    {
+        let t = self.transform;
+        finite_point(Point { x: t.xx, y: t.xy })
+            && finite_point(Point { x: t.yx, y: t.yy })
+            && finite_point(Point { x: t.x, y: t.y })
+            && finite_point(self.offset)
     }
-}
 
-fn rule_two(t: Transform, o: Point, a: Point, b: Point) -> Ruling
-    ensures { result ≡ points_ruled t o (a ∷ b ∷ []) }
-{
-    both(rule_point(t, o, a), rule_point(t, o, b))
-}
-
-// Every point of a command by the point rule.
-fn rule_points(t: Transform, o: Point, k: Command) -> Ruling
-    ensures { result ≡ points_ruled t o (points_of k) }
-{
-    match k {
-        Command::MoveTo(p) => rule_point(t, o, p),
-        Command::LineTo(p) => rule_point(t, o, p),
-        Command::QuadTo(c, p) => rule_two(t, o, c, p),
-        Command::CurveTo(c, d, p) => both(rule_point(t, o, c), rule_two(t, o, d, p)),
-        Command::Close => Ruling::Cuts(0),
+    // A point of the list, by the point rule.
+    fn spot(self, p: Point) -> Option<Spot>
+        ensures { result ≡ spot_at self.transform self.offset p }
+    {
+        fixed::from_point(self.transform.transform_point(p).plus(self.offset))
     }
-}
 
-// The record of index i: 11, then 18, then 12. `closed` says whether the record directly before it is Close.
-fn rule(t: Transform, o: Point, i: u32, closed: bool, k: Command) -> Ruling
-    ensures { result ≡ ruled (verdict_of t o i closed k) (cuts_at t o (points_of k)) }
-{
-    if i == 0 {
-        if !k.is_move() {
-            return Ruling::Faulty(Refusal::First);
+    // How many of a point's coordinates are cut, unless the point rule refuses it.
+    fn rule_point(self, p: Point) -> Result<u32, Refusal>
+        ensures { result ≡ points_ruled self.transform self.offset (p ∷ []) }
+    {
+        let spot = self.spot(p).ok_or(Refusal::Outside)?;
+        Ok(spot.cuts)
+    }
+
+    fn rule_two(self, a: Point, b: Point) -> Result<u32, Refusal>
+        ensures { result ≡ points_ruled self.transform self.offset (a ∷ b ∷ []) }
+    {
+        both(self.rule_point(a), self.rule_point(b))
+    }
+
+    // Every point of a command by the point rule.
+    fn rule_points(self, k: Command) -> Result<u32, Refusal>
+        ensures { result ≡ points_ruled self.transform self.offset (points_of k) }
+    {
+        match k {
+            Command::MoveTo(p) => self.rule_point(p),
+            Command::LineTo(p) => self.rule_point(p),
+            Command::QuadTo(c, p) => self.rule_two(c, p),
+            Command::CurveTo(c, d, p) => both(self.rule_point(c), self.rule_two(d, p)),
+            Command::Close => Ok(0),
         }
     }
-    if closed && k.draws() {
-        return Ruling::Faulty(Refusal::AfterClose);
+
+    // The record of index i: 11, then 18, then 12. `closed` says whether the record directly before it is Close.
+    #[tactic(auto, unfolding(crate::specs::Reading::verdict_of))]
+    fn rule(self, i: u32, closed: bool, k: Command) -> Result<u32, Refusal>
+        ensures { result ≡ ruled (verdict_of self.transform self.offset i closed k) (cuts_at self.transform self.offset (points_of k)) }
+    {
+        if i == 0 && !k.is_move() {
+            return Err(Refusal::First);
+        }
+        if closed && k.draws() {
+            return Err(Refusal::AfterClose);
+        }
+        self.rule_points(k)
     }
-    rule_points(t, o, k)
+
+    // A point in fixed numbers.
+    fn fixed(self, p: Point) -> FixedPoint
+        ensures { (result ≡ fixed_at self.transform self.offset p) × Reach result }
+    {
+        match self.spot(p) {
+            Some(spot) => spot.point,
+            None => FixedPoint {
+                x: fixed::BIAS,
+                y: fixed::BIAS,
+            },
+        }
+    }
+
+    // A command in fixed numbers.
+    fn stroke(self, k: Command) -> Stroke
+        ensures { (result ≡ stroke_of self.transform self.offset k) × ReachAll result }
+    {
+        match k {
+            Command::MoveTo(p) => Stroke::Move(self.fixed(p)),
+            Command::LineTo(p) => Stroke::Line(self.fixed(p)),
+            Command::QuadTo(c, p) => Stroke::Quad(self.fixed(c), self.fixed(p)),
+            Command::CurveTo(c, d, p) => {
+                Stroke::Cubic(self.fixed(c), self.fixed(d), self.fixed(p))
+            }
+            Command::Close => Stroke::Close,
+        }
+    }
 }
 
-// What a list is: so many records and coordinates that are cut, or the first fault and the index of its record.
-#[derive(Clone, Copy)]
-pub enum Judged {
-    Records { count: u32, cut: u32 },
-    Refused(Refusal, u32),
+// Checks 6 and 7.
+#[tactic(auto, unfolding(crate::specs::Inputs::inputs_of))]
+pub fn check_inputs(view: View, list: usize) -> Result<(), Refusal>
+    ensures { result ≡ inputs_of view.transform view.offset list }
+{
+    if !view.is_finite() {
+        return Err(Refusal::NotFinite);
+    }
+    if MOST_BYTES < list {
+        return Err(Refusal::Long);
+    }
+    Ok(())
+}
+
+// An accepted list: how many records it has, and how many coordinates that are cut.
+#[derive(Clone, Copy, Debug, PartialEq, Eq)]
+pub struct Records {
+    pub count: u32,
+    pub cut: u32,
 }
 
 // Judges the records front to back, and counts the coordinates that are cut.
-pub fn judge(list: &[u8], t: Transform, o: Point) -> Judged
+pub fn judge(list: &[u8], view: View) -> Result<Records, Refused>
     requires { length list.now ≤ 65536 }
-    ensures { result ≡ judged_of t o (read_list t o list.now) }
+    ensures { result ≡ judged_of view.transform view.offset (read_list view.transform view.offset list.now) }
 {
-    let mut at: usize = 0;
     let mut n: u32 = 0;
     let mut cut: u32 = 0;
     let mut closed = false;
-    loop {
-        match list::step_at(list, at) {
-            Step::End => {
-                return Judged::Records { count: n, cut };
-            }
-            Step::Refused(why) => {
-                return Judged::Refused(refusal_of(why), n);
-            }
-            Step::Command(k, next) => {
-                match rule(t, o, n, closed, k) {
-                    Ruling::Cuts(m) => {
-                        n += 1;
-                        cut += m;
-                        at = next;
-                        closed = k.is_close();
-                    }
-                    Ruling::Faulty(why) => {
-                        return Judged::Refused(why, n);
-                    }
-                }
-            }
-        }
+    for command in Commands::new(list) {
+        let command = command.map_err(|why| Refused {
+            why: why.into(),
+            record: n,
+        })?;
+        cut += view
+            .rule(n, closed, command)
+            .map_err(|why| Refused { why, record: n })?;
+        n += 1;
+        closed = command.is_close();
     }
+    Ok(Records { count: n, cut })
 }
 
-// A point in fixed numbers.
-fn fixed_at(t: Transform, o: Point, p: Point) -> FixedPoint
-    ensures { (result ≡ fixed_at t o p) × Reach result }
-{
-    match spot_at(t, o, p) {
-        Spot::At { point, cuts: _ } => point,
-        Spot::Outside => FixedPoint {
-            x: fixed::BIAS,
-            y: fixed::BIAS,
-        },
-    }
+// The record of this index was too much for the pool. The end counts as the record behind the last.
+#[derive(Clone, Copy, Debug, PartialEq, Eq)]
+pub struct Overfull {
+    pub record: usize,
 }
 
-// A command in fixed numbers.
-fn stroke_of(t: Transform, o: Point, k: Command) -> Stroke
-    ensures { (result ≡ stroke_of t o k) × ReachAll result }
-{
-    match k {
-        Command::MoveTo(p) => Stroke::Move(fixed_at(t, o, p)),
-        Command::LineTo(p) => Stroke::Line(fixed_at(t, o, p)),
-        Command::QuadTo(c, p) => Stroke::Quad(fixed_at(t, o, c), fixed_at(t, o, p)),
-        Command::CurveTo(c, d, p) => {
-            Stroke::Cubic(fixed_at(t, o, c), fixed_at(t, o, d), fixed_at(t, o, p))
-        }
-        Command::Close => Stroke::Close,
-    }
-}
-
-// A pool after a list was drawn: it holds so many cells, or the record of this index was too much for it. The end counts as
-// the record behind the last.
-#[derive(Clone, Copy)]
-pub enum Pool {
-    Cells(usize),
-    Full(usize),
-}
-
-// The pool as the record of index n leaves it.
-fn pool_at(kept: Kept, n: usize) -> Pool
-    ensures { result ≡ pool_at kept n }
-{
-    match kept {
-        Kept::Cells(count) => Pool::Cells(count),
-        Kept::Full => Pool::Full(n),
-    }
-}
-
-// Draws the list's strokes into a pool that holds nothing yet, up to a record that is too much for it.
-fn trace_list(ws: &mut [u32], f: Frame, cap: usize, list: &[u8], t: Transform, o: Point) -> Pool
-    requires { Ready f cap ws.old }
-    ensures { Traced f cap ws.old ws.new t o list.now result }
+// Draws the list's strokes into a pool that holds nothing yet, up to a record that is too much for it, and counts the cells.
+fn trace_list(ws: &mut [u32], board: Board, list: &[u8], view: View) -> Result<usize, Overfull>
+    requires { Ready board ws.old }
+    ensures { Traced board ws.old ws.new view.transform view.offset list.now result }
 {
     let mut track = raster::begin();
-    let mut at: usize = 0;
     let mut n: usize = 0;
-    loop {
-        match list::step_at(list, at) {
-            Step::End => {
-                return pool_at(raster::finish(ws, f, cap, track), n);
-            }
-            Step::Refused(_) => {
-                return pool_at(raster::finish(ws, f, cap, track), n);
-            }
-            Step::Command(k, next) => {
-                track = raster::trace(ws, f, cap, track, stroke_of(t, o, k));
-                let pen = track.pen;
-                let kept = pen.kept;
-                match kept {
-                    Kept::Full => {
-                        return Pool::Full(n);
-                    }
-                    Kept::Cells(_) => {
-                        n += 1;
-                        at = next;
-                    }
-                }
-            }
-        }
+    for command in Commands::new(list) {
+        let Ok(command) = command else {
+            break;
+        };
+        track = raster::trace(ws, board, track, view.stroke(command));
+        track.pen.kept.ok_or(Overfull { record: n })?;
+        n += 1;
     }
+    raster::finish(ws, board, track).ok_or(Overfull { record: n })
 }
 
 // How many cells the workspace has room for behind the rows' heads.
@@ -332,11 +295,7 @@ pub fn pool_of(words: usize, rows: usize) -> usize
     requires { rows ≤ words }
     ensures { result ≡ pool_of rows words }
 {
-    let room = (words - rows) / 4;
-    if MOST_CELLS < room {
-        return MOST_CELLS;
-    }
-    room
+    MOST_CELLS.min((words - rows) / 4)
 }
 
 // The drawing's edges, as cells.
@@ -354,19 +313,18 @@ fn frame_of(width: usize, first: usize, end: usize) -> Frame
 // The list's strokes drawn into the workspace, whatever it held, for the band [first, end) of a label of this width.
 pub fn pour(
     list: &[u8],
-    t: Transform,
-    o: Point,
+    view: View,
     width: usize,
     first: usize,
     end: usize,
     words: &mut [u32],
-) -> Pool
+) -> Result<usize, Overfull>
     requires { Fits width first end (length words.old) }
-    ensures { Poured t o width first end list.now words.old words.new result }
+    ensures { Poured view.transform view.offset width first end list.now words.old words.new result }
 {
     let rows = end - first;
     let cap = pool_of(words.len(), rows);
-    let f = frame_of(width, first, end);
+    let frame = frame_of(width, first, end);
     storage::clear(words, rows);
-    trace_list(words, f, cap, list, t, o)
+    trace_list(words, Board { frame, cap }, list, view)
 }

@@ -1,6 +1,6 @@
 -- Worked values of the rules, by computation. A cell z is held as z + 8192.
 use Rattle.std.specs.Prelude.{◌≡◌, ℕ, ◌+◌, List, [], ◌∷◌, refl}
-use Rattle.storage.specs.Deposits.{Deposit, given}
+use Rattle.storage.specs.Deposits.{given}
 use Rattle.pen.specs.declared.Frame.{Frame}
 use Rattle.pen.specs.Marks.{Mark, enter, give, deposits}
 

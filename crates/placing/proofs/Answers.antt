@@ -12,42 +12,39 @@ use Rattle.geometry.specs.declared.Transform.{Transform}
 use Rattle.geometry.specs.declared.Bounds.{Bounds}
 use Rattle.geometry.specs.declared.Origin.{Origin}
 use Rattle.geometry.specs.declared.Placed.{Placed}
-use Rattle.geometry.specs.declared.Placed.TheVariants as placed
-use Rattle.geometry.specs.declared.Placement.{Placement}
+use Rattle.std.specs.Prelude.{Option, None, Some}
 use Rattle.geometry.specs.Affine.{shifted}
-use Rattle.geometry.specs.Placing.{negated, placement_of, within, pick_placed, placed_of}
+use Rattle.geometry.specs.Placing.{negated, placement_of, within, placed, placed_of}
 use Rattle.command.specs.declared.Command.{Command}
 use Rattle.fixed.specs.Fixed.{spot_of}
 use Rattle.path.specs.declared.Refusal.{Refusal}
 use Rattle.path.specs.declared.Refusal.TheVariants.{NotFinite, Long, Outside}
-use Rattle.path.specs.declared.Verdict.{Verdict}
-use Rattle.path.specs.declared.Verdict.TheVariants.{Fine, Faulty}
-use Rattle.path.specs.declared.Judged.TheVariants.{Records, Refused}
+use Rattle.std.specs.Prelude.{⊤, Result, Ok, Err}
+use Rattle.path.specs.Refusals.{refused_at}
 use Rattle.path.specs.Inputs.{most_bytes, finite_point, finite_transform, inputs_of}
-use Rattle.path.specs.Reading.{Read, refused, path, passed, cuts_in, read_list, judged_of}
-use Rattle.placing.specs.declared.Boxed.TheVariants as boxed
-use Rattle.placing.specs.declared.Laid.TheVariants as laid
-use Rattle.placing.specs.Placing.{unless_faulty, read_checked, nowhere, path_box, bounds_of, laid_box, laid_path, laid_of}
+use Rattle.path.specs.Reading.{Read, refused, path, passed, cuts_in, read_list, counted, judged_of}
+use Rattle.path.proofs.Telling.{ok_not_err, same_counts, same_refusal}
+use Rattle.placing.specs.Placing.{unless_faulty, read_checked, nowhere, path_box, bounds_of, laid_with, laid_box, laid_path, laid_of}
 use Rattle.placing.specs.Measuring.{Boxes, Lies}
 use Rattle.placing.proofs.Near.{accepted_lies}
 use Rattle.placing.proofs.Offset.{empty_lies}
 
 module _ (t : Transform) (o : Point) (s : List ℕ) where
   -- ---- 6 and 7
-  pub short : inputs_of t o (length s) ≡ Fine → length s ≤ most_bytes
+  pub short : inputs_of t o (length s) ≡ Ok tt → length s ≤ most_bytes
   unfolding inputs_of
   short e = go (not (finite_transform t && finite_point o)) (ltb most_bytes (length s)) refl e
     where
-      go : (a b : Bool) → ltb most_bytes (length s) ≡ b → cond a (Faulty NotFinite) (cond b (Faulty Long) Fine) ≡ Fine → length s ≤ most_bytes
+      go : (a b : Bool) → ltb most_bytes (length s) ≡ b → cond a (Err NotFinite) (cond b (Err Long) (Ok (tt {0}))) ≡ Ok (tt {0}) → length s ≤ most_bytes
       go false false h k = ltb-false _ _ h
-      go false true h k = absurd (let z : ◌≡◌ {A = ℕ} 0 1 = cc in omega arith)
-      go true b h k = absurd (let z : ◌≡◌ {A = ℕ} 0 1 = cc in omega arith)
+      go false true h k = ok_not_err (sym k)
+      go true b h k = ok_not_err (sym k)
 
-  pub checked_fine : inputs_of t o (length s) ≡ Fine → judged_of t o (read_list t o s) ≡ judged_of t o (read_checked t o s)
+  pub checked_fine : inputs_of t o (length s) ≡ Ok tt → judged_of t o (read_list t o s) ≡ judged_of t o (read_checked t o s)
   unfolding read_checked
   checked_fine e = rw e
 
-  pub checked_faulty : (w : Refusal) → inputs_of t o (length s) ≡ Faulty w → Refused w 0 ≡ judged_of t o (read_checked t o s)
+  pub checked_faulty : (w : Refusal) → inputs_of t o (length s) ≡ Err w → refused_at w 0 ≡ judged_of t o (read_checked t o s)
   unfolding read_checked judged_of
   checked_faulty w e = rw e
 
@@ -59,66 +56,63 @@ module _ (t : Transform) (o : Point) (s : List ℕ) where
     pub count : n ≡ length cs
     pub cut : m ≡ cuts_in t o cs
 
-  passes_on : (v : Verdict) (cs : List Command) → unless_faulty v (read_list t o s) ≡ path cs → read_list t o s ≡ path cs
-  passes_on Fine cs e = e
-  passes_on (Faulty w) cs e = absurd (let z : ◌≡◌ {A = ℕ} 0 1 = cc in omega arith)
+  passes_on : (v : Result ⊤ Refusal) (cs : List Command) → unless_faulty v (read_list t o s) ≡ path cs → read_list t o s ≡ path cs
+  passes_on (Ok u) cs e = e
+  passes_on (Err w) cs e = absurd (let z : ◌≡◌ {A = ℕ} 0 1 = cc in omega arith)
 
   was_read : (cs : List Command) → read_checked t o s ≡ path cs → read_list t o s ≡ path cs
   unfolding read_checked
   was_read cs e = passes_on (inputs_of t o (length s)) cs e
 
-  tells : (n m : ℕ) (r : Read) → read_checked t o s ≡ r → Records n m ≡ judged_of t o r → Accepted n m
+  tells : (n m : ℕ) (r : Read) → read_checked t o s ≡ r → counted n m ≡ judged_of t o r → Accepted n m
   unfolding judged_of
-  tells n m (path cs) e h = record { cs = cs; reads = was_read cs e; checked = e; count = cc; cut = cc }
-  tells n m (refused w i) e h = absurd (let z : ◌≡◌ {A = ℕ} 0 1 = cc in omega arith)
+  tells n m (path cs) e h = record { cs = cs; reads = was_read cs e; checked = e; count = (same_counts h).0; cut = (same_counts h).1 }
+  tells n m (refused w i) e h = ok_not_err h
 
-  pub accepted : (n m : ℕ) → Records n m ≡ judged_of t o (read_checked t o s) → Accepted n m
+  pub accepted : (n m : ℕ) → counted n m ≡ judged_of t o (read_checked t o s) → Accepted n m
   accepted n m h = tells n m (read_checked t o s) refl h
 
   -- ---- turned away
-  away : (w : Refusal) (i : ℕ) (r : Read) → Refused w i ≡ judged_of t o r → r ≡ refused w i
+  away : (w : Refusal) (i : ℕ) (r : Read) → refused_at w i ≡ judged_of t o r → r ≡ refused w i
   unfolding judged_of
-  away w i (refused v k) h = cc
-  away w i (path cs) h = absurd (let z : ◌≡◌ {A = ℕ} 0 1 = cc in omega arith)
+  away w i (refused v k) h = let p = same_refusal h in rw (p.0, p.1)
+  away w i (path cs) h = ok_not_err (sym h)
 
-  pub turned : (w : Refusal) (i : ℕ) → Refused w i ≡ judged_of t o (read_checked t o s) → read_checked t o s ≡ refused w i
+  pub turned : (w : Refusal) (i : ℕ) → refused_at w i ≡ judged_of t o (read_checked t o s) → read_checked t o s ≡ refused w i
   turned w i h = away w i (read_checked t o s) h
 
 -- ---- bounds
 module _ (t : Transform) (s : List ℕ) where
-  pub boxed_at : (n m : ℕ) (b : Bounds) → Records n m ≡ judged_of t nowhere (read_checked t nowhere s) → Boxes t s b → boxed.Box b ≡ bounds_of t s
+  pub boxed_at : (n m : ℕ) (b : Bounds) → counted n m ≡ judged_of t nowhere (read_checked t nowhere s) → Boxes t s b → Ok b ≡ bounds_of t s
   unfolding bounds_of
   boxed_at n m b h k =
       let a = accepted t nowhere s n m h in
       rw (a.checked, k.boxes nowhere a.cs a.reads)
 
-  pub boxed_away : (w : Refusal) (i : ℕ) → Refused w i ≡ judged_of t nowhere (read_checked t nowhere s) → boxed.Refused w i ≡ bounds_of t s
+  pub boxed_away : (w : Refusal) (i : ℕ) → refused_at w i ≡ judged_of t nowhere (read_checked t nowhere s) → refused_at w i ≡ bounds_of t s
   unfolding bounds_of
   boxed_away w i h = rw (turned t nowhere s w i h)
 
 -- ---- placement
-near_both : (a b : Bool) (x y : Placed) → a ≡ true → b ≡ true → pick_placed (a && b) x y ≡ x
+near_both : (a b : Bool) (x y : Option Placed) → a ≡ true → b ≡ true → cond (a && b) x y ≡ x
 near_both a b x y p q = rw (p, q)
 
 module _ (g : Origin) (o : Point) (b : Bounds) (l : Lies o b) where
   -- geometry's placement is never outside
-  pub placed_near : placed_of g o b ≡ placed.At (negated (shifted o b.min)) (placement_of g (shifted o b.min) (shifted o b.max))
+  pub placed_near : placed_of g o b ≡ placed (negated (shifted o b.min)) (placement_of g (shifted o b.min) (shifted o b.max))
   placed_near = near_both (within (shifted o b.min)) (within (shifted o b.max)) _ _ l.low l.high
 
-  parts : (f : Point) (p : Placement) → placed_of g o b ≡ placed.At f p → placed.At f p ≡ placed.At (negated (shifted o b.min)) (placement_of g (shifted o b.min) (shifted o b.max))
-  parts f p e = sym e ∙ placed_near
-
-  pub lays : (f : Point) (p : Placement) (m : ℕ) → placed_of g o b ≡ placed.At f p → laid.At f p m ≡ laid_box g o b m
+  pub lays : (w : Placed) (m : ℕ) → placed_of g o b ≡ Some w → laid_with w.offset w.placement m ≡ laid_box g o b m
   unfolding laid_box
-  lays f p m e = go (parts f p e)
+  lays w m e = go (sym e ∙ placed_near)
     where
-      go : {f₁ f₂ : Point} {p₁ p₂ : Placement} → placed.At f₁ p₁ ≡ placed.At f₂ p₂ → laid.At f₁ p₁ m ≡ laid.At f₂ p₂ m
+      go : {v w : Placed} → Some v ≡ Some w → laid_with v.offset v.placement m ≡ laid_with w.offset w.placement m
       go h = cc
 
-  pub never_outside : placed_of g o b ≡ placed.Outside → ⊥
+  pub never_outside : placed_of g o b ≡ None → ⊥
   never_outside e = clash (sym e ∙ placed_near)
     where
-      clash : {f : Point} {p : Placement} → placed.Outside ≡ placed.At f p → ⊥
+      clash : {w : Placed} → None ≡ Some w → ⊥
       clash h = let z : ◌≡◌ {A = ℕ} 0 1 = cc in omega arith
 
 -- where there is no record the offset passed
@@ -137,32 +131,32 @@ module _ (t : Transform) (o : Point) (s : List ℕ) where
   path_lies [] r f = empty_lies t o (f refl)
   path_lies (c ∷ cs) r f = accepted_lies t o s c cs r
 
-  pub box_lies : (n m : ℕ) → Records n m ≡ judged_of t o (read_checked t o s) → Allowed o n → (b : Bounds) → Boxes t s b → Lies o b
+  pub box_lies : (n m : ℕ) → counted n m ≡ judged_of t o (read_checked t o s) → Allowed o n → (b : Bounds) → Boxes t s b → Lies o b
   box_lies n m h ok b k =
       let a = accepted t o s n m h in
       rw (k.boxes o a.cs a.reads) (path_lies a.cs a.reads (λ z. ok.allowed (a.count ∙ z)))
 
   -- so geometry's placement of an accepted list is never outside
-  pub accepted_placed : (g : Origin) (c : Command) (cs : List Command) → read_list t o s ≡ path (c ∷ cs) → placed_of g o (path_box t (c ∷ cs)) ≡ placed.Outside → ⊥
+  pub accepted_placed : (g : Origin) (c : Command) (cs : List Command) → read_list t o s ≡ path (c ∷ cs) → placed_of g o (path_box t (c ∷ cs)) ≡ None → ⊥
   accepted_placed g c cs e = never_outside g o (path_box t (c ∷ cs)) (accepted_lies t o s c cs e)
 
 module _ (g : Origin) (t : Transform) (o : Point) (s : List ℕ) where
-  pub laid_away : (w : Refusal) (i : ℕ) → Refused w i ≡ judged_of t o (read_checked t o s) → laid.Refused w i ≡ laid_of g t o s
+  pub laid_away : (w : Refusal) (i : ℕ) → refused_at w i ≡ judged_of t o (read_checked t o s) → refused_at w i ≡ laid_of g t o s
   unfolding laid_of
   laid_away w i h = rw (turned t o s w i h)
 
-  module _ (n m : ℕ) (h : Records n m ≡ judged_of t o (read_checked t o s)) where
+  module _ (n m : ℕ) (h : counted n m ≡ judged_of t o (read_checked t o s)) where
     laid_is : (cs : List Command) → read_checked t o s ≡ path cs → laid_path g t o cs ≡ laid_of g t o s
     unfolding laid_of
     laid_is cs e = rw e
 
     -- no record: the offset alone must pass
-    none_refused : (cs : List Command) → length cs ≡ 0 → passed (spot_of o) ≡ false → laid.Refused Outside 0 ≡ laid_path g t o cs
+    none_refused : (cs : List Command) → length cs ≡ 0 → passed (spot_of o) ≡ false → refused_at Outside 0 ≡ laid_path g t o cs
     unfolding laid_path
     none_refused [] z f = rw f
     none_refused (c ∷ cs) z f = absurd (omega arith)
 
-    pub offset_refused : n ≡ 0 → passed (spot_of o) ≡ false → laid.Refused Outside 0 ≡ laid_of g t o s
+    pub offset_refused : n ≡ 0 → passed (spot_of o) ≡ false → refused_at Outside 0 ≡ laid_of g t o s
     offset_refused z f =
         let a = accepted t o s n m h in
         none_refused a.cs (omega (arith, a.count)) f ∙ laid_is a.cs a.checked

@@ -5,6 +5,7 @@ use mathlib.Core.Path.{◌≡◌, refl, ap}
 use mathlib.Core.Bool.{Bool, true, false, cond}
 use mathlib.Core.List.{List, [], ◌∷◌, ◌++◌}
 use lib.Ieee.{Float, lt}
+use Rattle.std.specs.Prelude.{Some, None, Ok, Err}
 use Rattle.geometry.specs.declared.Point.{Point}
 use Rattle.geometry.specs.declared.Transform.{Transform}
 use Rattle.geometry.specs.declared.Bounds.{Bounds}
@@ -12,9 +13,7 @@ use Rattle.geometry.specs.Affine.{moved}
 use Rattle.geometry.specs.Box.{box_at, around, box_from, box_of}
 use Rattle.command.specs.declared.Command.{Command}
 use Rattle.list.specs.declared.Reason.{Reason}
-use Rattle.list.specs.declared.Step.{Step}
-use Rattle.list.specs.declared.Step.TheVariants as step
-use Rattle.list.specs.Records.{step_at}
+use Rattle.list.specs.Records.{Step, found, step_at}
 use Rattle.path.specs.Reading.{path, read_list}
 use Rattle.path.proofs.Walk.{Unread, all_unread, Onward, at_the_end, never_refused, onward}
 use Rattle.placing.specs.Placing.{nowhere, moved_points, path_points, path_box}
@@ -51,10 +50,11 @@ module _ (t : Transform) where
 
   module _ (s : List ℕ) where
     start : (o : Point) (cs : List Command) (x : Step) → step_at s 0 ≡ x → read_list t o s ≡ path cs → box_from (start_of t x) (path_points t cs) ≡ path_box t cs
-    start o cs step.End e r = rw (at_the_end t o s 0 cs (all_unread t o s cs r) e) starts_empty
-    start o cs (step.Refused w) e r = absurd (never_refused t o s 0 cs (all_unread t o s cs r) w e)
-    start o cs (step.Command c next) e r =
-        let w : Onward t o s c next cs = onward t o s 0 cs (all_unread t o s cs r) c next e in
+    start o cs (Ok None) e r = rw (at_the_end t o s 0 cs (all_unread t o s cs r) e) starts_empty
+    start o cs (Err w) e r = absurd (never_refused t o s 0 cs (all_unread t o s cs r) w e)
+    start o cs (Ok (Some k)) e r =
+        let c = k.command in
+        let w : Onward t o s c k.next cs = onward t o s 0 cs (all_unread t o s cs r) c k.next e in
         rw w.splits (starts c w.behind (begins t o s c w.behind (rw w.splits at r)))
 
     -- b is the box of what was passed of the commands cs; from `at` on the commands `rest` are read
@@ -77,7 +77,7 @@ module _ (t : Transform) where
     started b h = record { going = begun b h }
 
     module _ (b : Bounds) (at : ℕ) (g : Growing b at) where
-      module _ (k : Command) (next : ℕ) (e : step_at s at ≡ step.Command k next) (b' : Bounds) (d : b' ≡ box_from b (moved_points t k)) where
+      module _ (k : Command) (next : ℕ) (e : step_at s at ≡ found k next) (b' : Bounds) (d : b' ≡ box_from b (moved_points t k)) where
         onto : (o : Point) (cs : List Command) → Going o cs b at → Going o cs b' next
         unfolding path_points
         onto o cs h =
@@ -91,14 +91,14 @@ module _ (t : Transform) where
         pub goes_on : Growing b' next
         goes_on = record { going = λ o cs r. onto o cs (g.going o cs r) }
 
-      ending : (o : Point) (cs : List Command) → step_at s at ≡ step.End → Going o cs b at → b ≡ path_box t cs
+      ending : (o : Point) (cs : List Command) → step_at s at ≡ Ok None → Going o cs b at → b ≡ path_box t cs
       unfolding path_points box_from
       ending o cs e h = rw (at_the_end t o s at h.rest h.unread e) at h.all
 
-      pub ended : step_at s at ≡ step.End → Boxes t s b
+      pub ended : step_at s at ≡ Ok None → Boxes t s b
       ended e = record { boxes = λ o cs r. ending o cs e (g.going o cs r) }
 
-      pub turned : (w : Reason) → step_at s at ≡ step.Refused w → Boxes t s b
+      pub turned : (w : Reason) → step_at s at ≡ Err w → Boxes t s b
       turned w e = record {
         boxes = λ o cs r. let h = g.going o cs r in absurd (never_refused t o s at h.rest h.unread w e);
       }

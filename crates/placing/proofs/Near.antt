@@ -1,10 +1,9 @@
 -- A box has each of its parts from some point, so it keeps what all the points' parts have. A part that passes the point rule lies far below 2 ^ 23:
--- with the offset added, the box of an accepted list lies where geometry's placement is never `Outside`.
+-- with the offset added, the box of an accepted list lies where geometry's placement is never `None`.
 use Prim.Native.Nat.{ℕ, ◌+◌, ◌*◌, ◌/◌, ◌%◌, ◌^◌, ◌≤◌, ◌<◌}
 use mathlib.Core.Path.{◌≡◌, refl}
 use mathlib.Core.Bool.{Bool, true, false, not, cond}
 use mathlib.Core.List.{List, [], ◌∷◌, ◌++◌, map}
-use mathlib.Core.Option.{Option}
 use native.Mathlib.Nat.{div-lt_iff_lt-mul}
 use native.Mathlib.Omega.{arith}
 use lib.Dec.{leb, eqb}
@@ -19,8 +18,9 @@ use Rattle.geometry.specs.Affine.{plus, moved, shifted}
 use Rattle.geometry.specs.Box.{box_at, around, box_from, box_of}
 use Rattle.geometry.specs.Placing.{reaches, within}
 use Rattle.fixed.specs.declared.Fix.{Fix}
-use Rattle.fixed.specs.declared.Fix.TheVariants.{Fixed, Refused}
-use Rattle.fixed.specs.Fixed.{limit, held_of, pick_fix, within_limit, to_fixed, spot_from, spot_of}
+use Rattle.std.specs.Prelude.{Option, None, Some}
+use Rattle.std.specs.Option.{is_some}
+use Rattle.fixed.specs.Fixed.{limit, held_of, fix, within_limit, to_fixed, spot_from, spot_of}
 use Rattle.line.proofs.Tests.{both_true}
 use Rattle.command.specs.declared.Command.{Command}
 use Rattle.command.specs.Commands.{points_of}
@@ -82,14 +82,10 @@ small m d D l =
     let h : m * 256 < (limit + 1) * d = (div-lt_iff_lt-mul D).0 (omega arith) in
     omega arith
 
-abbrev is_fixed : Fix → Bool
-is_fixed (Fixed n c) = true
-is_fixed Refused = false
-
-limited : (s : Bool) (n : ℕ) (r : Bool) → is_fixed (within_limit s n r) ≡ true → n ≤ limit
+limited : (s : Bool) (n : ℕ) (r : Bool) → is_some (within_limit s n r) ≡ true → n ≤ limit
 limited s n r e = go (leb n limit) refl e
   where
-    go : (u : Bool) → leb n limit ≡ u → is_fixed (pick_fix u (Fixed (held_of s n) r) Refused) ≡ true → n ≤ limit
+    go : (u : Bool) → leb n limit ≡ u → is_some (cond u (fix (held_of s n) r) None) ≡ true → n ≤ limit
     go true h k = leb-true n limit h
     go false h k = absurd (let z : ◌≡◌ {A = ℕ} 0 1 = cc in omega arith)
 
@@ -97,7 +93,7 @@ limited s n r e = go (leb n limit) refl e
 pub data Small : Float → Type 0 where
   small_part : {s : Bool} {m : ℕ} {e : ℤ} → m * up e ≤ farthest * down e → Small (fin s m e)
 
-fixed_small : (v : Float) → is_fixed (to_fixed v) ≡ true → Small v
+fixed_small : (v : Float) → is_some (to_fixed v) ≡ true → Small v
 unfolding to_fixed
 fixed_small nan h = absurd (let z : ◌≡◌ {A = ℕ} 0 1 = cc in omega arith)
 fixed_small (inf s) h = absurd (let z : ◌≡◌ {A = ℕ} 0 1 = cc in omega arith)
@@ -114,11 +110,11 @@ pub record BothSmall (p : Point) : Type 0 where
   pub x_small : Small p.x
   pub y_small : Small p.y
 
-both_fixed : (f g : Fix) → passed (spot_from f g) ≡ true → (is_fixed f ≡ true) × (is_fixed g ≡ true)
+both_fixed : (f g : Option Fix) → passed (spot_from f g) ≡ true → (is_some f ≡ true) × (is_some g ≡ true)
 unfolding spot_from
-both_fixed (Fixed x a) (Fixed y b) h = (refl, refl)
-both_fixed (Fixed x a) Refused h = absurd (let z : ◌≡◌ {A = ℕ} 0 1 = cc in omega arith)
-both_fixed Refused g h = absurd (let z : ◌≡◌ {A = ℕ} 0 1 = cc in omega arith)
+both_fixed (Some f) (Some g) h = (refl, refl)
+both_fixed (Some f) None h = absurd (let z : ◌≡◌ {A = ℕ} 0 1 = cc in omega arith)
+both_fixed None g h = absurd (let z : ◌≡◌ {A = ℕ} 0 1 = cc in omega arith)
 
 pub spot_small : (p : Point) → passed (spot_of p) ≡ true → BothSmall p
 unfolding spot_of

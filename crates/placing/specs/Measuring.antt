@@ -1,5 +1,5 @@
 -- What the private functions promise of the box of a list's points. No rule speaks of this.
-use Rattle.std.specs.Prelude.{ℕ, ◌≡◌, true, List}
+use Rattle.std.specs.Prelude.{ℕ, ◌≡◌, true, List, Some, None, Ok, Err}
 use Rattle.geometry.specs.declared.Point.{Point}
 use Rattle.geometry.specs.declared.Transform.{Transform}
 use Rattle.geometry.specs.declared.Bounds.{Bounds}
@@ -8,8 +8,7 @@ use Rattle.geometry.specs.Box.{box_at}
 use Rattle.geometry.specs.Placing.{within}
 use Rattle.command.specs.declared.Command.{Command}
 use Rattle.command.specs.declared.Command.TheVariants.{MoveTo, LineTo, QuadTo, CurveTo, Close}
-use Rattle.list.specs.declared.Step.{Step}
-use Rattle.list.specs.declared.Step.TheVariants as step
+use Rattle.list.specs.Records.{Step}
 use Rattle.path.specs.Reading.{path, read_list}
 use Rattle.placing.specs.Placing.{nowhere, path_box}
 
@@ -22,9 +21,9 @@ first_in t (CurveTo c d p) = box_at nowhere
 first_in t Close = box_at nowhere
 
 abbrev pub start_of : Transform → Step → Bounds
-start_of t (step.Command c next) = first_in t c
-start_of t step.End = box_at nowhere
-start_of t (step.Refused why) = box_at nowhere
+start_of t (Ok (Some r)) = first_in t r.command
+start_of t (Ok None) = box_at nowhere
+start_of t (Err why) = box_at nowhere
 
 -- b is the box of the list's points, where the list is accepted
 pub record Boxes (t : Transform) (s : List ℕ) (b : Bounds) : Type 0 where

@@ -1,34 +1,33 @@
 -- The rules' number, index and values for each answer. A refused one has its number, its index and else zeros;
 -- an accepted one has number and index 0.
-use Rattle.std.specs.Prelude.{pos}
+use Rattle.std.specs.Prelude.{pos, Result, Ok, Err}
 use Rattle.float.specs.Cut.{zero_f}
+use Rattle.geometry.specs.declared.Bounds.{Bounds}
+use Rattle.path.specs.declared.Refused.{Refused}
 use Rattle.path.specs.Refusals.{number_of}
-use Rattle.placing.specs.declared.Boxed.{Boxed}
-use Rattle.placing.specs.declared.Boxed.TheVariants as boxed
 use Rattle.placing.specs.declared.Laid.{Laid}
-use Rattle.placing.specs.declared.Laid.TheVariants as laid
 use Rattle.placing.specs.declared.BoxNumbers.{BoxNumbers}
 use Rattle.placing.specs.declared.PlaceNumbers.{PlaceNumbers}
 
-abbrev pub box_numbers_of : Boxed → BoxNumbers
-box_numbers_of (boxed.Box b) = record { number = 0; index = 0; min_x = b.min.x; min_y = b.min.y; max_x = b.max.x; max_y = b.max.y }
-box_numbers_of (boxed.Refused w i) = record { number = number_of w; index = i; min_x = zero_f; min_y = zero_f; max_x = zero_f; max_y = zero_f }
+abbrev pub box_numbers_of : Result Bounds Refused → BoxNumbers
+box_numbers_of (Ok b) = record { number = 0; index = 0; min_x = b.min.x; min_y = b.min.y; max_x = b.max.x; max_y = b.max.y }
+box_numbers_of (Err r) = record { number = number_of r.why; index = r.«record»; min_x = zero_f; min_y = zero_f; max_x = zero_f; max_y = zero_f }
 
-abbrev pub place_numbers_of : Laid → PlaceNumbers
-place_numbers_of (laid.At o p cut) = record {
+abbrev pub place_numbers_of : Result Laid Refused → PlaceNumbers
+place_numbers_of (Ok a) = record {
   number = 0;
   index = 0;
-  offset_x = o.x;
-  offset_y = o.y;
-  left = p.left;
-  top = p.top;
-  width = p.width;
-  height = p.height;
-  cut = cut;
+  offset_x = a.offset.x;
+  offset_y = a.offset.y;
+  left = a.placement.left;
+  top = a.placement.top;
+  width = a.placement.width;
+  height = a.placement.height;
+  cut = a.cut;
 }
-place_numbers_of (laid.Refused w i) = record {
-  number = number_of w;
-  index = i;
+place_numbers_of (Err r) = record {
+  number = number_of r.why;
+  index = r.«record»;
   offset_x = zero_f;
   offset_y = zero_f;
   left = pos 0;

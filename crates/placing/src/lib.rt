@@ -12,35 +12,21 @@ ghost use Rattle.placing.specs.Numbers.{box_numbers_of, place_numbers_of};
 ghost use Rattle.placing.specs.Measuring.{first_in, start_of, Boxes, Lies};
 
 use command::Command;
-use fixed::Spot;
-use geometry::{Bounds, Origin, Placed, Placement, Point, Transform};
-use list::Step;
-use path::{Judged, Refusal, Verdict};
+use geometry::{Bounds, Origin, Placement, Point, Transform};
+use list::Commands;
+use path::{Records, Refusal, Refused, View};
 
-// What bounds answer.
-#[derive(Clone, Copy)]
-pub enum Boxed {
-    Box(Bounds),
-    Refused { why: Refusal, record: u32 },
-}
-
-// What placement answers: the new offset, where the mask lies, and how many coordinates are cut.
-#[derive(Clone, Copy)]
-pub enum Laid {
-    At {
-        offset: Point,
-        placement: Placement,
-        cut: u32,
-    },
-    Refused {
-        why: Refusal,
-        record: u32,
-    },
+// Where a mask lies: the new offset, the placement, and how many coordinates are cut.
+#[derive(Clone, Copy, Debug, PartialEq)]
+pub struct Laid {
+    pub offset: Point,
+    pub placement: Placement,
+    pub cut: u32,
 }
 
 // The answers in the rules' numbers, laid out for C.
 #[repr(C)]
-#[derive(Clone, Copy)]
+#[derive(Clone, Copy, Debug, PartialEq)]
 pub struct BoxNumbers {
     pub number: u32,
     pub index: u32,
@@ -51,7 +37,7 @@ pub struct BoxNumbers {
 }
 
 #[repr(C)]
-#[derive(Clone, Copy)]
+#[derive(Clone, Copy, Debug, PartialEq)]
 pub struct PlaceNumbers {
     pub number: u32,
     pub index: u32,
@@ -72,13 +58,11 @@ fn zero_point() -> Point
 }
 
 // Refusals 6 to 12 and 18.
-fn judge_inputs(list: &[u8], t: Transform, o: Point) -> Judged
-    ensures { result ≡ judged_of t o (read_checked t o list.now) }
+fn judge_inputs(list: &[u8], view: View) -> Result<Records, Refused>
+    ensures { result ≡ judged_of view.transform view.offset (read_checked view.transform view.offset list.now) }
 {
-    match path::check_inputs(t, o, list.len()) {
-        Verdict::Fine => path::judge(list, t, o),
-        Verdict::Faulty(why) => Judged::Refused(why, 0),
-    }
+    path::check_inputs(view, list.len())?;
+    path::judge(list, view)
 }
 
 // The box around the points of one command more.
@@ -115,9 +99,8 @@ fn start_box(list: &[u8], t: Transform) -> Bounds
     ensures { result ≡ start_of t (step_at list.now 0) }
 {
     match list::step_at(list, 0) {
-        Step::Command(k, _) => first_box(t, k),
-        Step::End => Bounds::of(zero_point()),
-        Step::Refused(_) => Bounds::of(zero_point()),
+        Ok(Some(record)) => first_box(t, record.command),
+        Ok(None) | Err(_) => Bounds::of(zero_point()),
     }
 }
 
@@ -126,133 +109,111 @@ fn box_list(list: &[u8], t: Transform) -> Bounds
     ensures { Boxes t list.now result }
 {
     let mut b = start_box(list, t);
-    let mut at: usize = 0;
-    loop {
-        match list::step_at(list, at) {
-            Step::End => {
-                return b;
-            }
-            Step::Refused(_) => {
-                return b;
-            }
-            Step::Command(k, next) => {
-                b = grow(b, t, k);
-                at = next;
-            }
-        }
+    for command in Commands::new(list) {
+        let Ok(command) = command else {
+            return b;
+        };
+        b = grow(b, t, command);
     }
+    b
 }
 
 // The box of a list's points under a transform.
-pub fn bounds(list: &[u8], t: Transform) -> Boxed
+pub fn bounds(list: &[u8], t: Transform) -> Result<Bounds, Refused>
     ensures { result ≡ bounds_of t list.now }
 {
-    match judge_inputs(list, t, zero_point()) {
-        Judged::Records { count: _, cut: _ } => Boxed::Box(box_list(list, t)),
-        Judged::Refused(why, record) => Boxed::Refused { why, record },
-    }
+    let view = View {
+        transform: t,
+        offset: zero_point(),
+    };
+    judge_inputs(list, view)?;
+    Ok(box_list(list, t))
 }
 
 // Whether the offset alone passes the point rule.
 fn offset_passes(o: Point) -> bool
     ensures { result ≡ passed (spot_of o) }
 {
-    match fixed::from_point(o) {
-        Spot::At { point: _, cuts: _ } => true,
-        Spot::Outside => false,
-    }
+    fixed::from_point(o).is_some()
 }
 
 // The placement of a box that lies near, with so many coordinates that are cut.
-fn lay(origin: Origin, o: Point, b: Bounds, cut: u32) -> Laid
+fn lay(origin: Origin, o: Point, b: Bounds, cut: u32) -> Result<Laid, Refused>
     requires { Lies o b }
     ensures { result ≡ laid_box origin o b cut }
 {
-    match Placement::compute(origin, o, b) {
-        Placed::At { offset, placement } => Laid::At {
-            offset,
-            placement,
-            cut,
-        },
-        Placed::Outside => Laid::Refused {
-            why: Refusal::Outside,
-            record: 0,
-        },
-    }
+    let placed = Placement::compute(origin, o, b).ok_or(Refusal::Outside)?;
+    Ok(Laid {
+        offset: placed.offset,
+        placement: placed.placement,
+        cut,
+    })
 }
 
 // Where the mask of a list lies, under a transform and an offset.
-pub fn placement(list: &[u8], t: Transform, o: Point, origin: Origin) -> Laid
-    ensures { result ≡ laid_of origin t o list.now }
+pub fn placement(list: &[u8], view: View, origin: Origin) -> Result<Laid, Refused>
+    ensures { result ≡ laid_of origin view.transform view.offset list.now }
 {
-    match judge_inputs(list, t, o) {
-        Judged::Records { count, cut } => {
-            if count == 0 {
-                if !offset_passes(o) {
-                    return Laid::Refused {
-                        why: Refusal::Outside,
-                        record: 0,
-                    };
-                }
-            }
-            lay(origin, o, box_list(list, t), cut)
+    let judged = judge_inputs(list, view)?;
+    if judged.count == 0 && !offset_passes(view.offset) {
+        return Err(Refusal::Outside.into());
+    }
+    let around = box_list(list, view.transform);
+    lay(origin, view.offset, around, judged.cut)
+}
+
+impl From<Result<Bounds, Refused>> for BoxNumbers {
+    ghost from_gives = { λ a n. n ≡ box_numbers_of a };
+
+    fn from(a: Result<Bounds, Refused>) -> BoxNumbers {
+        match a {
+            Ok(b) => BoxNumbers {
+                number: 0,
+                index: 0,
+                min_x: b.min.x,
+                min_y: b.min.y,
+                max_x: b.max.x,
+                max_y: b.max.y,
+            },
+            Err(refused) => BoxNumbers {
+                number: refused.why.into(),
+                index: refused.record,
+                min_x: 0.0,
+                min_y: 0.0,
+                max_x: 0.0,
+                max_y: 0.0,
+            },
         }
-        Judged::Refused(why, record) => Laid::Refused { why, record },
     }
 }
 
-pub fn box_numbers(a: Boxed) -> BoxNumbers
-    ensures { result ≡ box_numbers_of a }
-{
-    match a {
-        Boxed::Box(b) => BoxNumbers {
-            number: 0,
-            index: 0,
-            min_x: b.min.x,
-            min_y: b.min.y,
-            max_x: b.max.x,
-            max_y: b.max.y,
-        },
-        Boxed::Refused { why, record } => BoxNumbers {
-            number: path::number_of(why),
-            index: record,
-            min_x: 0.0,
-            min_y: 0.0,
-            max_x: 0.0,
-            max_y: 0.0,
-        },
-    }
-}
+impl From<Result<Laid, Refused>> for PlaceNumbers {
+    ghost from_gives = { λ a n. n ≡ place_numbers_of a };
 
-pub fn place_numbers(a: Laid) -> PlaceNumbers
-    ensures { result ≡ place_numbers_of a }
-{
-    match a {
-        Laid::At {
-            offset,
-            placement,
-            cut,
-        } => PlaceNumbers {
-            number: 0,
-            index: 0,
-            offset_x: offset.x,
-            offset_y: offset.y,
-            left: placement.left,
-            top: placement.top,
-            width: placement.width,
-            height: placement.height,
-            cut,
-        },
-        Laid::Refused { why, record } => PlaceNumbers {
-            number: path::number_of(why),
-            index: record,
-            offset_x: 0.0,
-            offset_y: 0.0,
-            left: 0,
-            top: 0,
-            width: 0,
-            height: 0,
-            cut: 0,
-        },
+    fn from(a: Result<Laid, Refused>) -> PlaceNumbers {
+        match a {
+            Ok(laid) => PlaceNumbers {
+                number: 0,
+                index: 0,
+                offset_x: laid.offset.x,
+                offset_y: laid.offset.y,
+                left: laid.placement.left,
+                top: laid.placement.top,
+                width: laid.placement.width,
+                height: laid.placement.height,
+                cut: laid.cut,
+            },
+            Err(refused) => PlaceNumbers {
+                number: refused.why.into(),
+                index: refused.record,
+                offset_x: 0.0,
+                offset_y: 0.0,
+                left: 0,
+                top: 0,
+                width: 0,
+                height: 0,
+                cut: 0,
+            },
+        }
     }
 }

@@ -3,9 +3,8 @@ use Prim.Native.Nat.{ℕ}
 use mathlib.Core.Path.{◌≡◌}
 use mathlib.Core.List.{List}
 use Rattle.label.specs.declared.Label.{Label}
-use Rattle.label.specs.declared.Answer.{Answer}
 use Rattle.label.specs.declared.Numbers.{Numbers}
-use Rattle.label.specs.Draw.{numbers_of}
+use Rattle.label.specs.Draw.{Answer, numbers_of}
 use Rattle.label.specs.Inking as inking
 use Rattle.probe.specs.Probes.{Celled}
 

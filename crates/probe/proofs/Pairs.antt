@@ -1,11 +1,9 @@
 -- Points read off a list of numbers, two at a time.
-use Prim.Native.Nat.{ℕ, suc, ◌+◌, ◌-◌, ◌≤◌, ◌<◌}
+use Prim.Native.Nat.{◌≤◌, ◌<◌}
 use mathlib.Core.Path.{◌≡◌, refl}
-use mathlib.Core.List.{List, [], ◌∷◌}
-use native.Mathlib.Numerals.{add-one}
+use mathlib.Core.List.{List, [], ◌∷◌, ◌++◌}
 use native.Mathlib.Omega.{arith}
-use lib.ListN.{length, get_or, drop, length-drop}
-use lib.Seq.{drop-cons}
+use lib.ListN.{length, get_or, drop}
 use lib.Ieee.{Float}
 use Rattle.float.specs.Cut.{zero_f}
 use Rattle.geometry.specs.declared.Bounds.{Bounds}
@@ -23,30 +21,29 @@ pub none : (ps : List Float) → length ps < 2 → box_at (point_of zero_f zero_
 unfolding box_of
 none ps h = rw (pairs_short ps h)
 
-module _ (ps : List Float) (d : Float) where
-  two : (i : ℕ) → i + 1 < length ps → pairs_of (drop i ps) ≡ point_of (get_or ps i d) (get_or ps (i + 1) d) ∷ pairs_of (drop (i + 2) ps)
-  unfolding pairs_of
-  two i h =
-      let e : i + 1 ≡ suc i = add-one i in
-      let u : suc (suc i) ≡ i + 2 = omega arith in
-      rw (drop-cons ps i d (omega arith), drop-cons ps (suc i) d (omega arith), e, u)
+-- the two numbers of a pair come before those of the pairs behind it
+two : (x zs : List Float) (d : Float) → length x ≡ 2 → pairs_of (x ++ zs) ≡ point_of (get_or x 0 d) (get_or x 1 d) ∷ pairs_of zs
+unfolding pairs_of
+two [] zs d h = absurd (omega arith)
+two (a ∷ []) zs d h = absurd (omega arith)
+two (a ∷ (b ∷ [])) zs d h = refl
+two (a ∷ (b ∷ (c ∷ x))) zs d h = absurd (omega arith)
 
-  -- the box so far, and the points from i on
-  pub record Going (b : Bounds) (i : ℕ) : Type 0 where
-    pub inside : i ≤ length ps
-    pub same : box_from b (pairs_of (drop i ps)) ≡ box_of (pairs_of ps)
+-- the box so far, and the numbers that are left
+pub record Going (ps : List Float) (b : Bounds) (rest : List Float) : Type 0 where
+  pub same : box_from b (pairs_of rest) ≡ box_of (pairs_of ps)
 
-  first_two : 1 < length ps → pairs_of ps ≡ point_of (get_or ps 0 d) (get_or ps 1 d) ∷ pairs_of (drop 2 ps)
-  first_two h = two 0 h
+pub started : (ps : List Float) (d : Float) (b : Bounds) → 2 ≤ length ps → b ≡ box_at (point_of (get_or ps 0 d) (get_or ps 1 d)) → Going ps b (drop 2 ps)
+unfolding box_of pairs_of
+started [] d b h e = absurd (omega arith)
+started (x ∷ []) d b h e = absurd (omega arith)
+started (x ∷ (y ∷ zs)) d b h e = record { same = rw e }
 
-  pub started : (b : Bounds) → 2 ≤ length ps → b ≡ box_at (point_of (get_or ps 0 d) (get_or ps 1 d)) → Going b 2
-  unfolding box_of
-  started b h e = record { inside = h; same = rw (e, first_two (omega arith)) }
-
-  pub goes_on : (b b' : Bounds) (i : ℕ) → Going b i → i < length ps - 1 → b' ≡ around b (point_of (get_or ps i d) (get_or ps (i + 1) d)) → Going b' (i + 2)
+module _ (ps : List Float) (d : Float) {b : Bounds} {rest : List Float} (g : Going ps b rest) where
+  pub goes_on : (b' : Bounds) (x zs : List Float) → length x ≡ 2 → rest ≡ x ++ zs → b' ≡ around b (point_of (get_or x 0 d) (get_or x 1 d)) → Going ps b' zs
   unfolding box_from
-  goes_on b b' i g h e = record { inside = omega arith; same = rw e (rw (two i (omega arith)) at g.same) }
+  goes_on b' x zs h e f = record { same = rw f (rw (e, two x zs d h) at g.same) }
 
-  pub done : (b : Bounds) (i : ℕ) → Going b i → length ps - 1 ≤ i → b ≡ box_of (pairs_of ps)
+  pub done : length rest < 2 → b ≡ box_of (pairs_of ps)
   unfolding box_from
-  done b i g h = rw (pairs_short (drop i ps) (simp length-drop (omega (arith, g.inside)))) at g.same
+  done h = rw (pairs_short rest h) at g.same

@@ -1,21 +1,17 @@
 -- How the probes' types stand for those of the crates below.
-use Rattle.std.specs.Prelude.{ℕ, ◌≡◌, true, false, cond, ◌&&◌, List, [], ◌∷◌, ◌++◌, leb, ltb, length, replicate, pos, Float}
+use Rattle.std.specs.Prelude.{ℕ, ◌≡◌, true, false, cond, ◌&&◌, List, [], ◌∷◌, ◌++◌, leb, ltb, length, replicate, pos, Float, Option, None, Some}
 use Rattle.float.specs.Cut.{zero_f}
 use Rattle.geometry.specs.declared.Point.{Point}
 use Rattle.geometry.specs.declared.Bounds.{Bounds}
 use Rattle.geometry.specs.declared.Placed.{Placed}
-use Rattle.geometry.specs.declared.Placed.TheVariants.{At, Outside}
 use Rattle.geometry.specs.Affine.{point_of}
 use Rattle.geometry.specs.Box.{bounds_of}
-use Rattle.storage.specs.declared.Kept.{Kept}
-use Rattle.storage.specs.declared.Kept.TheVariants.{Cells, Full}
 use Rattle.storage.specs.Deposits.{per_row, Deposit, given, distinct}
 use Rattle.storage.specs.Answers.{most_rows, kept_of, Stored}
 use Rattle.path.specs.Pouring.{pool_of}
 use Rattle.label.specs.declared.Label.{Label}
-use Rattle.label.specs.declared.Answer.{Answer}
 use Rattle.label.specs.declared.Numbers.{Numbers}
-use Rattle.label.specs.Draw.{numbers_of}
+use Rattle.label.specs.Draw.{Answer, numbers_of}
 use Rattle.label.specs.Inking as inking
 use Rattle.mosszephyr.specs.Face.{point_in_c, point_out_of_c}
 use Rattle.probe.specs.declared.MzBox.{MzBox}
@@ -27,9 +23,16 @@ box_out_of_c b = bounds_of (point_out_of_c b.min) (point_out_of_c b.max)
 abbrev pub box_in_c : Bounds → MzBox
 box_in_c b = record { min = point_in_c b.min; max = point_in_c b.max }
 
-abbrev pub placed_in_c : Placed → MzPlaced
-placed_in_c (At o p) = record { placed = true; offset = point_in_c o; left = p.left; top = p.top; width = p.width; height = p.height }
-placed_in_c Outside = record { placed = false; offset = record { x = zero_f; y = zero_f }; left = pos 0; top = pos 0; width = 0; height = 0 }
+abbrev pub placed_in_c : Option Placed → MzPlaced
+placed_in_c (Some p) = record {
+  placed = true;
+  offset = point_in_c p.offset;
+  left = p.placement.left;
+  top = p.placement.top;
+  width = p.placement.width;
+  height = p.placement.height;
+}
+placed_in_c None = record { placed = false; offset = record { x = zero_f; y = zero_f }; left = pos 0; top = pos 0; width = 0; height = 0 }
 
 -- numbers, x and y alternating, as points; an odd last number is left out
 unfoldable pub pairs_of : List Float → List Point
@@ -64,7 +67,7 @@ deposits_of rows [] = []
 -- the sizes are no pool's, or the pool keeps the pairs so
 pub data Run : Type 0 where
   unpooled : Run
-  pooled : Kept → Run
+  pooled : Option ℕ → Run
 
 -- the run of a log in so many words
 unfoldable pub run_of : ℕ → ℕ → List Deposit → Run
@@ -77,14 +80,14 @@ no_cells = 65535
 
 -- the number of cells
 abbrev pub cells_of : Run → ℕ
-cells_of (pooled (Cells n)) = n
-cells_of (pooled Full) = no_cells
+cells_of (pooled (Some n)) = n
+cells_of (pooled None) = no_cells
 cells_of unpooled = no_cells
 
 -- the words afterwards: they hold the log, or are zero, or are as they were
 abbrev pub Left : ℕ → List Deposit → List ℕ → List ℕ → Run → Type 0
-Left rows log before after (pooled (Cells n)) = Stored after rows last_column (pool_of rows (length before)) log (Cells n)
-Left rows log before after (pooled Full) = after ≡ replicate (length before) 0
+Left rows log before after (pooled (Some n)) = Stored after rows last_column (pool_of rows (length before)) log (Some n)
+Left rows log before after (pooled None) = after ≡ replicate (length before) 0
 Left rows log before after unpooled = after ≡ before
 
 -- the run of the pairs: its answer, and what it leaves in the words

@@ -4,30 +4,31 @@
 
 ghost use Rattle.std.specs.Prelude.{◌≡◌};
 ghost use Rattle.geometry.specs.Placing.{placed_of};
-ghost use Rattle.storage.specs.Answers.{Room, Deposited};
+ghost use Rattle.storage.specs.Storing.{Room, Deposited};
 ghost use Rattle.paper.specs.Placing.{box_of};
 ghost use Rattle.mosszephyr.specs.Face.{point_out_of_c, origin_of, label_of};
 ghost use Rattle.probe.specs.Probes.{box_in_c, box_out_of_c, placed_in_c, pairs_of, Celled, last_column, deposit_of, deposits_of, Ran};
 
 use geometry::{Bounds, Placed, Placement, Point};
-use mosszephyr::{MzDrawn, MzLabel, MzPoint, label_of, mz_point, origin_of};
-use storage::Kept;
+use label::Label;
+use mosszephyr::{MzDrawn, MzLabel, MzPoint, origin_of};
+use storage::{Entry, Kept, Sizes};
 
 // The most rows that a pool has.
 const MOST_ROWS: usize = 4096;
 
-// The answer of a run that leaves no cells.
+// The answer of a run that leaves no cells. It stands for None, and so does the flag `placed`, below: C, which calls these, has no Option.
 const NO_CELLS: u64 = 65535;
 
 #[repr(C)]
-#[derive(Clone, Copy)]
+#[derive(Clone, Copy, Debug, PartialEq)]
 pub struct MzBox {
     pub min: MzPoint,
     pub max: MzPoint,
 }
 
 #[repr(C)]
-#[derive(Clone, Copy)]
+#[derive(Clone, Copy, Debug, PartialEq)]
 pub struct MzPlaced {
     pub placed: bool,
     pub offset: MzPoint,
@@ -37,35 +38,47 @@ pub struct MzPlaced {
     pub height: u32,
 }
 
-fn box_in_c(b: Bounds) -> MzBox
-    ensures { result ≡ box_in_c b }
-{
-    MzBox {
-        min: mz_point(b.min),
-        max: mz_point(b.max),
+impl From<Bounds> for MzBox {
+    ghost from_gives = { λ b r. r ≡ box_in_c b };
+
+    fn from(b: Bounds) -> MzBox {
+        MzBox {
+            min: MzPoint::from(b.min),
+            max: MzPoint::from(b.max),
+        }
     }
 }
 
-fn placed_in_c(p: Placed) -> MzPlaced
-    ensures { result ≡ placed_in_c p }
-{
-    match p {
-        Placed::At { offset, placement } => MzPlaced {
-            placed: true,
-            offset: mz_point(offset),
-            left: placement.left,
-            top: placement.top,
-            width: placement.width,
-            height: placement.height,
-        },
-        Placed::Outside => MzPlaced {
-            placed: false,
-            offset: MzPoint { x: 0.0, y: 0.0 },
-            left: 0,
-            top: 0,
-            width: 0,
-            height: 0,
-        },
+impl From<MzBox> for Bounds {
+    ghost from_gives = { λ b r. r ≡ box_out_of_c b };
+
+    fn from(b: MzBox) -> Bounds {
+        Bounds::new(Point::from(b.min), Point::from(b.max))
+    }
+}
+
+impl From<Option<Placed>> for MzPlaced {
+    ghost from_gives = { λ p r. r ≡ placed_in_c p };
+
+    fn from(p: Option<Placed>) -> MzPlaced {
+        match p {
+            Some(placed) => MzPlaced {
+                placed: true,
+                offset: MzPoint::from(placed.offset),
+                left: placed.placement.left,
+                top: placed.placement.top,
+                width: placed.placement.width,
+                height: placed.placement.height,
+            },
+            None => MzPlaced {
+                placed: false,
+                offset: MzPoint { x: 0.0, y: 0.0 },
+                left: 0,
+                top: 0,
+                width: 0,
+                height: 0,
+            },
+        }
     }
 }
 
@@ -74,7 +87,7 @@ fn placed_in_c(p: Placed) -> MzPlaced
 pub extern "C" fn mz_probe_cells(list: &[u8], label: MzLabel, words: &mut [u32]) -> MzDrawn
     ensures { Celled (label_of label) list.now words.old words.new result }
 {
-    label::numbers_of(label::cells(list, label_of(label), 0xffff_ffff_ffff_ffff, words))
+    label::cells(list, Label::from(label), 0xffff_ffff_ffff_ffff, words).into()
 }
 
 // The box around points, x and y alternating; an odd last number is left out.
@@ -83,15 +96,13 @@ pub extern "C" fn mz_probe_box(points: &[f32]) -> MzBox
     ensures { result ≡ box_in_c (box_of (pairs_of points.now)) }
 {
     if points.len() < 2 {
-        return box_in_c(Bounds::of(Point::new(0.0, 0.0)));
+        return MzBox::from(Bounds::of(Point::new(0.0, 0.0)));
     }
     let mut around = Bounds::of(Point::new(points[0], points[1]));
-    let mut i = 2;
-    while i < points.len() - 1 {
-        around = around.add(Point::new(points[i], points[i + 1]));
-        i += 2;
+    for p in points[2..].chunks_exact(2) {
+        around = around.add(Point::new(p[0], p[1]));
     }
-    box_in_c(around)
+    MzBox::from(around)
 }
 
 // A box, placed.
@@ -99,62 +110,44 @@ pub extern "C" fn mz_probe_box(points: &[f32]) -> MzBox
 pub extern "C" fn mz_probe_place(b: MzBox, offset: MzPoint, bottom_left: bool) -> MzPlaced
     ensures { result ≡ placed_in_c (placed_of (origin_of bottom_left) (point_out_of_c offset) (box_out_of_c b)) }
 {
-    let min = Point::new(b.min.x, b.min.y);
-    let max = Point::new(b.max.x, b.max.y);
-    let bounds = Bounds::new(min, max);
-    placed_in_c(Placement::compute(
-        origin_of(bottom_left),
-        Point::new(offset.x, offset.y),
-        bounds,
-    ))
+    MzPlaced::from(Placement::compute(origin_of(bottom_left), Point::from(offset), Bounds::from(b)))
 }
 
 // Stores a pair, unless it is outside the pool's rows or columns.
-fn store_pair(
-    words: &mut [u32],
-    rows: usize,
-    cap: usize,
-    count: usize,
-    row: usize,
-    column: usize,
-    cover: u32,
-    area: u32,
-) -> Kept
-    requires { Room words.old rows cap count }
-    ensures { Deposited words.old words.new rows last_column cap count (deposit_of rows row column cover area) result }
+fn store_pair(words: &mut [u32], sizes: Sizes, entry: Entry) -> Kept
+    requires { Room words.old sizes }
+    ensures { Deposited words.old words.new sizes.rows last_column sizes.cap sizes.count (deposit_of sizes.rows entry.row entry.column entry.cover entry.area) result }
 {
-    if rows <= row {
-        return Kept::Cells(count);
+    if sizes.rows <= entry.row {
+        return Some(sizes.count);
     }
-    if storage::PER_ROW <= column {
-        return Kept::Cells(count);
+    if storage::PER_ROW <= entry.column {
+        return Some(sizes.count);
     }
-    storage::store(words, rows, cap, count, row, column, cover, area)
+    storage::store(words, sizes, entry)
 }
 
-// Stores the pairs in a pool with no cells, until one does not fit.
-fn store_pairs(pairs: &[u32], words: &mut [u32], rows: usize, cap: usize) -> Kept
-    requires { Room words.old rows cap 0 }
-    ensures { Deposited words.old words.new rows last_column cap 0 (deposits_of rows pairs.now) result }
+// Stores the pairs, until one does not fit.
+fn store_pairs(pairs: &[u32], words: &mut [u32], sizes: Sizes) -> Kept
+    requires { Room words.old sizes }
+    ensures { Deposited words.old words.new sizes.rows last_column sizes.cap sizes.count (deposits_of sizes.rows pairs.now) result }
 {
-    let mut count: usize = 0;
-    let mut at: usize = 0;
-    while at + 3 < pairs.len() {
-        let row = storage::word(pairs, at);
-        let column = storage::word(pairs, at + 1);
-        let cover = pairs[at + 2];
-        let area = pairs[at + 3];
-        match store_pair(words, rows, cap, count, row, column, cover, area) {
-            Kept::Cells(n) => {
-                count = n;
-                at += 4;
-            }
-            Kept::Full => {
-                return Kept::Full;
-            }
-        }
+    let mut count = sizes.count;
+    for p in pairs.chunks_exact(4) {
+        let entry = Entry {
+            row: p[0] as usize,
+            column: p[1] as usize,
+            cover: p[2],
+            area: p[3],
+        };
+        let now = Sizes {
+            rows: sizes.rows,
+            cap: sizes.cap,
+            count,
+        };
+        count = store_pair(words, now, entry)?;
     }
-    Kept::Cells(count)
+    Some(count)
 }
 
 // Stores pairs into a pool of so many rows, one behind the other, and leaves the cells in the words. Four numbers a pair: row, column counted
@@ -172,9 +165,14 @@ pub extern "C" fn mz_probe_stores(pairs: &[u32], rows: usize, words: &mut [u32])
     }
     let cap = path::pool_of(words.len(), rows);
     storage::clear(words, rows);
-    match store_pairs(pairs, words, rows, cap) {
-        Kept::Cells(n) => n as u64,
-        Kept::Full => {
+    let sizes = Sizes {
+        rows,
+        cap,
+        count: 0,
+    };
+    match store_pairs(pairs, words, sizes) {
+        Some(n) => n as u64,
+        None => {
             storage::wipe(words);
             NO_CELLS
         }

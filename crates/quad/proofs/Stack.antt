@@ -139,9 +139,6 @@ module _ {l : List FixedPoint} {a draw rest : ℕ} {left : List FixedPoint} (s :
     pub room : a ≤ 14
     room = omega (arith, s.place, deep.1, rising_few s.top s.under s.rising)
 
-    pub rest_less : rest / 2 < rest
-    rest_less = omega (arith, s.halvings, pow_pos s.top)
-
     pub pushed : Stacked (halved l a) (a + 2) draw (rest / 2) left
     unfolding lines waiting halved
     pushed =

@@ -3,31 +3,25 @@
 #![tactic(auto)]
 
 ghost use Rattle.std.specs.Prelude.{◌≡◌, ◌^◌, ◌≤◌};
-ghost use Rattle.fixed.specs.Fixed.{cell, apart};
 ghost use Rattle.storage.specs.Answers.{Within};
 ghost use Rattle.pen.specs.Drawing.{Ready, Drew};
-ghost use Rattle.line.specs.Range.{Reach};
-ghost use Rattle.quad.specs.Quads.{bend, doublings, all_past, all_ahead, quad_marks};
+ghost use Rattle.quad.specs.Quads.{bend, doublings, quad_marks};
 ghost use Rattle.quad.specs.Stack.{halved};
 
-use fixed::FixedPoint;
-use pen::{Frame, Pen};
+mod quads;
 
-// |m - n|
-fn distance(m: u32, n: u32) -> u32
-    ensures { result ≡ apart m n }
-{
-    if m < n { n - m } else { m - n }
-}
+use fixed::FixedPoint;
+use pen::{Board, Pen};
+pub use quads::Quad;
 
 // The larger |p0 + p2 - 2c|.
-fn bend_of(a: FixedPoint, c: FixedPoint, b: FixedPoint) -> u32
-    requires { (Reach a) × ((Reach c) × (Reach b)) }
-    ensures { result ≡ bend a c b }
+fn bend_of(quad: Quad) -> u32
+    ensures { result ≡ bend quad.a quad.c quad.b }
 {
-    let dx = distance(a.x + b.x, 2 * c.x);
-    let dy = distance(a.y + b.y, 2 * c.y);
-    if dx < dy { dy } else { dx }
+    let Quad { a, c, b, .. } = quad;
+    let dx = (a.x + b.x).abs_diff(2 * c.x);
+    let dy = (a.y + b.y).abs_diff(2 * c.y);
+    dx.max(dy)
 }
 
 // How many lines: one, doubled as often as the bend is quartered until it is at most 64.
@@ -41,27 +35,6 @@ fn lines_of(bend: u32) -> u32
         n *= 2;
     }
     n
-}
-
-// The row of a point's cell.
-fn row_of(p: FixedPoint) -> u64
-    ensures { result ≡ cell p.y }
-{
-    fixed::trunc(p.y) as u64
-}
-
-// Every point in a row at or past the band's end.
-fn all_past(f: Frame, a: FixedPoint, c: FixedPoint, b: FixedPoint) -> bool
-    ensures { result ≡ all_past f a c b }
-{
-    f.end <= row_of(a) && (f.end <= row_of(c) && f.end <= row_of(b))
-}
-
-// Every point in a row before the band's first.
-fn all_ahead(f: Frame, a: FixedPoint, c: FixedPoint, b: FixedPoint) -> bool
-    ensures { result ≡ all_ahead f a c b }
-{
-    row_of(a) < f.first && (row_of(c) < f.first && row_of(b) < f.first)
 }
 
 // The part at `top` is halved: its end half stays there, its start half comes above it.
@@ -79,23 +52,16 @@ fn halve(arc: [FixedPoint; 33], top: usize) -> [FixedPoint; 33]
 }
 
 // A quad from a to b: `draw` lines are left, and the part at the top is halved as often as `rest` is even.
-pub fn quad_to(
-    ws: &mut [u32],
-    f: Frame,
-    cap: usize,
-    pen: Pen,
-    a: FixedPoint,
-    c: FixedPoint,
-    b: FixedPoint,
-) -> Pen
-    requires ready { Ready f cap ws.old }
-    requires within { Within cap pen.kept }
-    requires reach_a { Reach a }
-    requires reach_c { Reach c }
-    requires reach_b { Reach b }
-    ensures { Drew f cap ws.old ws.new pen result (quad_marks f a c b) }
+// The loop is not that of a cubic: how often a quad is halved is counted before it, while each part of a cubic is tested.
+// The stack is an array of points with its top beside it: nothing here has a heap, and parts that lie next to each other share an
+// end point, which a stack of quads would hold twice.
+pub fn quad_to(ws: &mut [u32], board: Board, pen: Pen, quad: Quad) -> Pen
+    requires ready { Ready board ws.old }
+    requires within { Within board.cap pen.kept }
+    ensures { Drew board ws.old ws.new pen result (quad_marks board.frame quad.a quad.c quad.b) }
 {
-    if all_past(f, a, c, b) || all_ahead(f, a, c, b) {
+    let Quad { a, c, b, .. } = quad;
+    if line::all_past(board.frame, [a, c, b]) || line::all_ahead(board.frame, [a, c, b]) {
         return pen;
     }
     let mut arc = [FixedPoint { x: 0, y: 0 }; 33];
@@ -103,7 +69,7 @@ pub fn quad_to(
     arc[1] = c;
     arc[2] = a;
     let mut top: usize = 0;
-    let mut draw = lines_of(bend_of(a, c, b));
+    let mut draw = lines_of(bend_of(quad));
     let mut rest = draw;
     let mut from = a;
     let mut drawn = pen;
@@ -114,7 +80,7 @@ pub fn quad_to(
             rest /= 2;
         } else {
             let to = arc[top];
-            drawn = line::line_to(ws, f, cap, drawn, from, to);
+            drawn = line::line_to(ws, board, drawn, from, to);
             draw -= 1;
             if draw == 0 {
                 return drawn;

@@ -4,7 +4,7 @@ use mathlib.Core.Path.{◌≡◌, refl}
 use mathlib.Core.List.{List, [], ◌∷◌, ◌++◌}
 use Rattle.fixed.specs.declared.FixedPoint.{FixedPoint}
 use Rattle.pen.specs.declared.Frame.{Frame}
-use Rattle.pen.specs.declared.Pen.{Pen}
+use Rattle.pen.specs.declared.boards.Board.{Board}
 use Rattle.pen.specs.Drawing.{Drew}
 use Rattle.line.specs.Range.{Reach}
 use Rattle.line.specs.Lines.{line_marks}
@@ -12,14 +12,11 @@ use Rattle.quad.specs.Quads.{quad_marks}
 use Rattle.cubic.specs.Cubics.{cubic_marks}
 use Rattle.raster.specs.declared.Stroke.{Stroke}
 use Rattle.raster.specs.declared.Stroke.TheVariants.{Move, Line, Quad, Cubic, Close}
-use Rattle.raster.specs.declared.Track.{Track}
+use Rattle.raster.specs.declared.tracks.Track.{Track}
 use Rattle.raster.specs.Path.{move_marks, stroke_marks, point_after, start_after, marks_from}
-use Rattle.raster.specs.Tracing.{ReachAll, Sound, Stroked}
+use Rattle.raster.specs.Tracing.{ReachAll, Stroked}
 
-pub told_reach : {s : Stroke} (k : Stroke) → s ≡ k → ReachAll s → ReachAll k
-told_reach k e h = rw e at h
-
-pub told_stroked : {f : Frame} {cap : ℕ} {ws ws' : List ℕ} {t t' : Track} {s : Stroke} (k : Stroke) → s ≡ k → Stroked f cap ws ws' t k t' → Stroked f cap ws ws' t s t'
+pub told_stroked : {board : Board} {ws ws' : List ℕ} {t t' : Track} {s : Stroke} (k : Stroke) → s ≡ k → Stroked board ws ws' t k t' → Stroked board ws ws' t s t'
 told_stroked k e h = rw e h
 
 -- ---- the marks of each case, and of a path, one stroke at a time
@@ -52,24 +49,21 @@ module _ (f : Frame) (a s : FixedPoint) where
   unfolding marks_from
   marks_stroke k ks = refl
 
-abbrev track : Pen → FixedPoint → FixedPoint → Track
-track q a s = record { pen = q; at = a; start = s }
+module _ {board : Board} {ws ws' : List ℕ} {t t' : Track} where
+  pub moves : (b : FixedPoint) → t'.at ≡ b → t'.start ≡ b → Drew board ws ws' t.pen t'.pen (move_marks board.frame t.at t.start b) → Stroked board ws ws' t (Move b) t'
+  moves b p q d = record { drew = rw (stroke_move board.frame t.at t.start b) d; goes = p; starts = q }
 
-module _ {f : Frame} {cap : ℕ} {ws ws' : List ℕ} {t : Track} {p : Pen} where
-  pub moves : (b : FixedPoint) → Drew f cap ws ws' t.pen p (move_marks f t.at t.start b) → Stroked f cap ws ws' t (Move b) (track p b b)
-  moves b d = record { drew = rw (stroke_move f t.at t.start b) d; goes = refl; starts = refl }
+  pub lines : (b : FixedPoint) → t'.at ≡ b → t'.start ≡ t.start → Drew board ws ws' t.pen t'.pen (line_marks board.frame t.at b) → Stroked board ws ws' t (Line b) t'
+  lines b p q d = record { drew = rw (stroke_line board.frame t.at t.start b) d; goes = p; starts = q }
 
-  pub lines : (b : FixedPoint) → Drew f cap ws ws' t.pen p (line_marks f t.at b) → Stroked f cap ws ws' t (Line b) (track p b t.start)
-  lines b d = record { drew = rw (stroke_line f t.at t.start b) d; goes = refl; starts = refl }
+  pub bends : (c b : FixedPoint) → t'.at ≡ b → t'.start ≡ t.start → Drew board ws ws' t.pen t'.pen (quad_marks board.frame t.at c b) → Stroked board ws ws' t (Quad c b) t'
+  bends c b p q d = record { drew = rw (stroke_quad board.frame t.at t.start c b) d; goes = p; starts = q }
 
-  pub bends : (c b : FixedPoint) → Drew f cap ws ws' t.pen p (quad_marks f t.at c b) → Stroked f cap ws ws' t (Quad c b) (track p b t.start)
-  bends c b d = record { drew = rw (stroke_quad f t.at t.start c b) d; goes = refl; starts = refl }
+  pub curves : (c e b : FixedPoint) → t'.at ≡ b → t'.start ≡ t.start → Drew board ws ws' t.pen t'.pen (cubic_marks board.frame t.at c e b) → Stroked board ws ws' t (Cubic c e b) t'
+  curves c e b p q d = record { drew = rw (stroke_cubic board.frame t.at t.start c e b) d; goes = p; starts = q }
 
-  pub curves : (c e b : FixedPoint) → Drew f cap ws ws' t.pen p (cubic_marks f t.at c e b) → Stroked f cap ws ws' t (Cubic c e b) (track p b t.start)
-  curves c e b d = record { drew = rw (stroke_cubic f t.at t.start c e b) d; goes = refl; starts = refl }
-
-  pub closes : Drew f cap ws ws' t.pen p (line_marks f t.at t.start) → Stroked f cap ws ws' t Close (track p t.start t.start)
-  closes d = record { drew = rw (stroke_close f t.at t.start) d; goes = refl; starts = refl }
+  pub closes : t'.at ≡ t.start → t'.start ≡ t.start → Drew board ws ws' t.pen t'.pen (line_marks board.frame t.at t.start) → Stroked board ws ws' t Close t'
+  closes p q d = record { drew = rw (stroke_close board.frame t.at t.start) d; goes = p; starts = q }
 
 -- the pen point and the start stay within reach
 pub reach_point : (s : FixedPoint) (k : Stroke) → Reach s → ReachAll k → Reach (point_after s k)
@@ -85,11 +79,3 @@ reach_start s (Line b) h g = h
 reach_start s (Quad c b) h g = h
 reach_start s (Cubic c d b) h g = h
 reach_start s Close h g = h
-
-pub still_sound : {f : Frame} {cap : ℕ} {ws ws' : List ℕ} {t t' : Track} {k : Stroke} → Sound cap t → ReachAll k → Stroked f cap ws ws' t k t' → Sound cap t'
-still_sound {t = t} {k = k} h g d =
-    record {
-      within = d.drew.within;
-      near = rw d.goes (reach_point t.start k h.begun g);
-      begun = rw d.starts (reach_start t.start k h.begun g);
-    }

@@ -5,13 +5,11 @@ use Rattle.fixed.specs.Fixed.{bias, cell}
 use Rattle.storage.specs.Deposits.{Deposit}
 use Rattle.pen.specs.declared.Frame.{Frame}
 use Rattle.pen.specs.Marks.{Mark, enter, Stand, Pair, whole, deposits}
-use Rattle.pen.specs.Drawing.{lifted}
 use Rattle.line.specs.Lines.{line_marks}
 use Rattle.quad.specs.Quads.{quad_marks}
 use Rattle.cubic.specs.Cubics.{cubic_marks}
 use Rattle.raster.specs.declared.Stroke.{Stroke}
 use Rattle.raster.specs.declared.Stroke.TheVariants.{Move, Line, Quad, Cubic, Close}
-use Rattle.raster.specs.declared.Track.{Track}
 
 -- the label's corner, where the pen point is before the first stroke
 abbrev pub corner : FixedPoint
@@ -64,6 +62,3 @@ deposits_of f ks = deposits f (marks f ks)
 -- what is left from a stand on: the last subpath is closed, the last cell is stored
 abbrev pub end_of : Frame → Stand → FixedPoint → FixedPoint → List Pair
 end_of f st a s = whole st (line_marks f a s)
-
-abbrev pub begun : Track
-begun = record { pen = lifted; at = corner; start = corner }

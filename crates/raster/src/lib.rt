@@ -4,17 +4,21 @@
 
 ghost use Rattle.std.specs.Prelude.{◌≡◌};
 ghost use Rattle.storage.specs.Answers.{Within};
-ghost use Rattle.pen.specs.Drawing.{Ready, Added, Drew, stand_of};
-ghost use Rattle.line.specs.Range.{Reach};
-ghost use Rattle.raster.specs.Path.{begun, move_marks, end_of};
-ghost use Rattle.raster.specs.Tracing.{ReachAll, Sound, Stroked};
+ghost use Rattle.pen.specs.Drawing.{Ready, Added, Drew, lifted, stand_of};
+ghost use Rattle.raster.specs.Path.{corner, move_marks, end_of};
+ghost use Rattle.raster.specs.Tracing.{ReachAll, Stroked};
 
+mod tracks;
+
+use cubic::Cubic;
 use fixed::FixedPoint;
-use pen::{Frame, Pen};
+use pen::{Board, Pen};
+use quad::Quad;
 use storage::Kept;
+pub use tracks::Track;
 
 // A command in fixed numbers.
-#[derive(Clone, Copy)]
+#[derive(Clone, Copy, Debug, PartialEq, Eq)]
 pub enum Stroke {
     Move(FixedPoint),
     Line(FixedPoint),
@@ -23,17 +27,11 @@ pub enum Stroke {
     Close,
 }
 
-#[derive(Clone, Copy)]
-pub struct Track {
-    pub pen: Pen,
-    // The pen point, and where the subpath started.
-    pub at: FixedPoint,
-    pub start: FixedPoint,
-}
-
 // Before the first stroke: the pen is in no cell.
 pub fn begin() -> Track
-    ensures { result ≡ begun }
+    ensures pen { result.pen ≡ lifted }
+    ensures at { result.at ≡ corner }
+    ensures start { result.start ≡ corner }
 {
     let corner = FixedPoint {
         x: fixed::BIAS,
@@ -47,16 +45,15 @@ pub fn begin() -> Track
 }
 
 // MoveTo: the open subpath is closed, and the pen enters the new point's cell.
-fn move_to(ws: &mut [u32], f: Frame, cap: usize, t: Track, b: FixedPoint) -> Pen
-    requires ready { Ready f cap ws.old }
-    requires sound { Sound cap t }
-    ensures { Drew f cap ws.old ws.new t.pen result (move_marks f t.at t.start b) }
+fn move_to(ws: &mut [u32], board: Board, t: Track, b: FixedPoint) -> Pen
+    requires ready { Ready board ws.old }
+    requires within { Within board.cap t.pen.kept }
+    ensures { Drew board ws.old ws.new t.pen result (move_marks board.frame t.at t.start b) }
 {
-    let closed = line::line_to(ws, f, cap, t.pen, t.at, t.start);
+    let closed = line::line_to(ws, board, t.pen, t.at, t.start);
     pen::set_cell(
         ws,
-        f,
-        cap,
+        board,
         closed,
         fixed::trunc(b.x) as u64,
         fixed::trunc(b.y) as u64,
@@ -64,17 +61,17 @@ fn move_to(ws: &mut [u32], f: Frame, cap: usize, t: Track, b: FixedPoint) -> Pen
 }
 
 // Draws one stroke.
-pub fn trace(ws: &mut [u32], f: Frame, cap: usize, t: Track, s: Stroke) -> Track
-    requires ready { Ready f cap ws.old }
-    requires sound { Sound cap t }
+pub fn trace(ws: &mut [u32], board: Board, t: Track, s: Stroke) -> Track
+    requires ready { Ready board ws.old }
+    requires within { Within board.cap t.pen.kept }
     requires reach { ReachAll s }
-    ensures { Stroked f cap ws.old ws.new t s result }
+    ensures { Stroked board ws.old ws.new t s result }
 {
     let a = t.at;
     let start = t.start;
     match s {
         Stroke::Move(b) => {
-            let pen = move_to(ws, f, cap, t, b);
+            let pen = move_to(ws, board, t, b);
             Track {
                 pen,
                 at: b,
@@ -82,19 +79,19 @@ pub fn trace(ws: &mut [u32], f: Frame, cap: usize, t: Track, s: Stroke) -> Track
             }
         }
         Stroke::Line(b) => {
-            let pen = line::line_to(ws, f, cap, t.pen, a, b);
+            let pen = line::line_to(ws, board, t.pen, a, b);
             Track { pen, at: b, start }
         }
         Stroke::Quad(c, b) => {
-            let pen = quad::quad_to(ws, f, cap, t.pen, a, c, b);
+            let pen = quad::quad_to(ws, board, t.pen, Quad { a, c, b });
             Track { pen, at: b, start }
         }
         Stroke::Cubic(c, d, b) => {
-            let pen = cubic::curve_to(ws, f, cap, t.pen, a, c, d, b);
+            let pen = cubic::curve_to(ws, board, t.pen, Cubic { a, c, d, b });
             Track { pen, at: b, start }
         }
         Stroke::Close => {
-            let pen = line::line_to(ws, f, cap, t.pen, a, start);
+            let pen = line::line_to(ws, board, t.pen, a, start);
             Track {
                 pen,
                 at: start,
@@ -105,12 +102,12 @@ pub fn trace(ws: &mut [u32], f: Frame, cap: usize, t: Track, s: Stroke) -> Track
 }
 
 // The end: the open subpath is closed, and the last cell is stored.
-pub fn finish(ws: &mut [u32], f: Frame, cap: usize, t: Track) -> Kept
-    requires ready { Ready f cap ws.old }
-    requires sound { Sound cap t }
-    ensures within { Within cap result }
-    ensures added { Added f cap ws.old ws.new t.pen.kept result (end_of f (stand_of t.pen) t.at t.start) }
+pub fn finish(ws: &mut [u32], board: Board, t: Track) -> Kept
+    requires ready { Ready board ws.old }
+    requires within { Within board.cap t.pen.kept }
+    ensures within { Within board.cap result }
+    ensures added { Added board ws.old ws.new t.pen.kept result (end_of board.frame (stand_of t.pen) t.at t.start) }
 {
-    let closed = line::line_to(ws, f, cap, t.pen, t.at, t.start);
-    pen::finish(ws, f, cap, closed)
+    let closed = line::line_to(ws, board, t.pen, t.at, t.start);
+    pen::finish(ws, board, closed)
 }

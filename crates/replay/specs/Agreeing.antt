@@ -12,6 +12,15 @@ unfoldable pub accepted_of : (ℕ → ℕ) → ℕ → ℕ
 accepted_of number zero = 0
 accepted_of number (suc k) = accepted_of number k + (if number k == 0 then 1 else 0)
 
+-- where the case of a number stands, counted from 0, of those from an index on, by where the one behind each stands
+unfoldable pub nth : (ℕ → ℕ) → ℕ → ℕ → ℕ
+nth next from zero = from
+nth next from (suc k) = next (nth next from k)
+
+-- and the number that the file says it answers, by the index
+abbrev pub answered : (ℕ → ℕ) → (ℕ → ℕ) → ℕ → ℕ → ℕ
+answered number next from k = number (nth next from k)
+
 -- ---- drawings
 -- the numbers that stand behind a label
 unfoldable pub numbers_at : List ℕ → ℕ → Numbers
@@ -62,9 +71,8 @@ after_drawing s at =
     if slice_index s (onward end 82) == 1 then onward (onward end 83) (word_at s (onward end 78)) else onward end 91
 
 -- where the drawing of a number stands, counted from 0, of those from an index on
-unfoldable pub nth_drawing : List ℕ → ℕ → ℕ → ℕ
-nth_drawing s from zero = from
-nth_drawing s from (suc k) = after_drawing s (nth_drawing s from k)
+abbrev pub nth_drawing : List ℕ → ℕ → ℕ → ℕ
+nth_drawing s from k = nth (after_drawing s) from k
 
 -- and the number that it answered
 abbrev pub drawing_number : List ℕ → ℕ → ℕ → ℕ
@@ -108,9 +116,8 @@ abbrev pub after_placement : List ℕ → ℕ → ℕ
 after_placement s at = onward (list_end s at) 69
 
 -- where the placement of a number stands, counted from 0, of those from an index on
-unfoldable pub nth_placement : List ℕ → ℕ → ℕ → ℕ
-nth_placement s from zero = from
-nth_placement s from (suc k) = after_placement s (nth_placement s from k)
+abbrev pub nth_placement : List ℕ → ℕ → ℕ → ℕ
+nth_placement s from k = nth (after_placement s) from k
 
 -- and the number that it answered
 abbrev pub placement_number : List ℕ → ℕ → ℕ → ℕ

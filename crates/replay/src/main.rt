@@ -5,13 +5,16 @@
 // The file starts with MZREPLAY, then the count of drawings, the drawings, the count of placements, the placements; all numbers are little-endian.
 #![tactic(auto)]
 
-ghost use Rattle.std.specs.Prelude.{◌≡◌, ◌↔◌, ◌+◌, ◌*◌, ◌%◌, ◌^◌, ◌<◌, ◌≤◌, if◌then◌else◌, pos, ◌+ℤ◌, length, replicate, slice_index, All, IfOk, IsTrue};
+ghost use Rattle.std.specs.Prelude.{◌≡◌, ◌↔◌, ℕ, List, ◌+◌, ◌*◌, ◌%◌, ◌^◌, ◌<◌, ◌≤◌, if◌then◌else◌, pos, ◌+ℤ◌, length, replicate, slice_index, take, All, IfOk, IsTrue};
+ghost use Rattle.std.specs.Io.KnownBytes.{Consumes, IsAtEnd};
+ghost use Rattle.std.specs.Slice.{IsGetRangeResult};
 ghost use Rattle.paper.specs.Drawing.{draw};
 ghost use Rattle.replay.specs.Reading.{onward, number_of, word_at, wide_at, float_at, point_at, transform_at, fill_of, origin_of, label_at, list_end, fnv1a, bits_of};
-ghost use Rattle.replay.specs.Agreeing.{SameBytes, MaskAgrees, numbers_at, word_after, Agrees, DrawingAgrees, EachDrawingAgrees, SignedAgrees, PlaceAgrees, PlacementAgrees, EachPlacementAgrees, accepted_of, after_drawing, nth_drawing, drawing_number, nth_placement, placement_number};
+ghost use Rattle.replay.specs.Agreeing.{SameBytes, MaskAgrees, numbers_at, word_after, Agrees, DrawingAgrees, EachDrawingAgrees, SignedAgrees, PlaceAgrees, PlacementAgrees, EachPlacementAgrees, accepted_of, nth, answered, after_drawing, nth_drawing, drawing_number, after_placement, nth_placement, placement_number};
 
 use geometry::{Origin, Point, Transform};
 use label::{Label, Numbers};
+use path::Refusal;
 use placing::PlaceNumbers;
 use std::fs::File;
 use std::io;
@@ -38,72 +41,163 @@ fn add(a: usize, b: usize) -> usize
     a.wrapping_add(b)
 }
 
-// The byte at an index, or 0 behind the end.
-fn byte_at(s: &[u8], at: usize) -> u8
-    ensures { result ≡ slice_index s.now at }
-{
-    if at < s.len() {
-        return s[at];
+// A place in the bytes of a file.
+#[derive(Clone, Copy)]
+struct Cursor<'a> {
+    bytes: &'a [u8],
+    at: usize,
+}
+
+impl<'a> Cursor<'a> {
+    // The place so many bytes behind.
+    fn skip(self, n: usize) -> Cursor<'a>
+        ensures bytes { result.bytes.now ≡ self.entry.bytes.now }
+        ensures at { result.at ≡ onward self.entry.at n }
+    {
+        Cursor {
+            bytes: self.bytes,
+            at: add(self.at, n),
+        }
     }
-    0
-}
 
-fn word_of(a: u8, b: u8, c: u8, d: u8) -> usize
-    ensures value { result ≡ number_of a b c d }
-    ensures fits { result < 2 ^ 32 }
-{
-    (a as usize) + (b as usize) * 0x100 + (c as usize) * 0x1_0000 + (d as usize) * 0x100_0000
-}
+    // The byte there, or 0 behind the end.
+    fn byte(self) -> u8
+        ensures { result ≡ slice_index self.entry.bytes.now self.entry.at }
+    {
+        if self.at < self.bytes.len() {
+            return self.bytes[self.at];
+        }
+        0
+    }
 
-// The number of four bytes, the first one lowest.
-#[tactic(auto, unfolding(crate::specs::Reading::word_at))]
-fn word_at(s: &[u8], at: usize) -> usize
-    ensures value { result ≡ word_at s.now at }
-    ensures fits { result < 2 ^ 32 }
-{
-    word_of(
-        byte_at(s, at),
-        byte_at(s, add(at, 1)),
-        byte_at(s, add(at, 2)),
-        byte_at(s, add(at, 3)),
-    )
-}
+    // The number of four bytes, the first one lowest.
+    #[tactic(auto, unfolding(crate::specs::Reading::word_at))]
+    fn word(self) -> usize
+        ensures value { result ≡ word_at self.entry.bytes.now self.entry.at }
+        ensures fits { result < 2 ^ 32 }
+    {
+        u32::from_le_bytes([
+            self.byte(),
+            self.skip(1).byte(),
+            self.skip(2).byte(),
+            self.skip(3).byte(),
+        ]) as usize
+    }
 
-#[tactic(auto, unfolding(crate::specs::Reading::float_at))]
-fn float_at(s: &[u8], at: usize) -> f32
-    ensures { result ≡ float_at s.now at }
-{
-    float::from_bytes(
-        byte_at(s, at),
-        byte_at(s, add(at, 1)),
-        byte_at(s, add(at, 2)),
-        byte_at(s, add(at, 3)),
-    )
-}
+    #[tactic(auto, unfolding(crate::specs::Reading::float_at))]
+    fn float(self) -> f32
+        ensures { result ≡ float_at self.entry.bytes.now self.entry.at }
+    {
+        float::from_bytes(
+            self.byte(),
+            self.skip(1).byte(),
+            self.skip(2).byte(),
+            self.skip(3).byte(),
+        )
+    }
 
-fn point_at(s: &[u8], at: usize) -> Point
-    ensures { result ≡ point_at s.now at }
-{
-    Point {
-        x: float_at(s, at),
-        y: float_at(s, add(at, 4)),
+    fn point(self) -> Point
+        ensures { result ≡ point_at self.entry.bytes.now self.entry.at }
+    {
+        Point {
+            x: self.float(),
+            y: self.skip(4).float(),
+        }
+    }
+
+    #[tactic(auto, unfolding(crate::specs::Reading::transform_at))]
+    fn transform(self) -> Transform
+        ensures { result ≡ transform_at self.entry.bytes.now self.entry.at }
+    {
+        Transform {
+            xx: self.float(),
+            xy: self.skip(4).float(),
+            yx: self.skip(8).float(),
+            yy: self.skip(12).float(),
+            x: self.skip(16).float(),
+            y: self.skip(20).float(),
+        }
+    }
+
+    // What stands behind a drawing's list.
+    #[tactic(auto, unfolding(crate::specs::Reading::label_at))]
+    fn label(self) -> Label
+        ensures { result ≡ label_at self.entry.bytes.now self.entry.at }
+    {
+        Label {
+            transform: self.transform(),
+            offset: self.skip(24).point(),
+            fill: fill_of(self.skip(32).byte()),
+            up: self.skip(33).byte() == 1,
+            width: self.skip(34).word(),
+            height: self.skip(38).word(),
+            pitch: self.skip(42).word(),
+            first: self.skip(46).word(),
+            end: self.skip(50).word(),
+        }
+    }
+
+    // The numbers that stand behind a label.
+    #[tactic(auto, unfolding(crate::specs::Agreeing::numbers_at))]
+    fn numbers(self) -> Numbers
+        ensures { result ≡ numbers_at self.entry.bytes.now self.entry.at }
+    {
+        Numbers {
+            number: self.skip(58).word() as u32,
+            index: self.skip(62).word() as u32,
+            records: self.skip(66).word() as u32,
+            cells: self.skip(70).word() as u32,
+            cut: self.skip(74).word() as u32,
+        }
+    }
+
+    // Where the list ends that starts with its length.
+    fn behind_list(self) -> Cursor<'a>
+        ensures bytes { result.bytes.now ≡ self.entry.bytes.now }
+        ensures at { result.at ≡ list_end self.entry.bytes.now self.entry.at }
+    {
+        self.skip(4).skip(self.word())
+    }
+
+    // The list that starts with its length, where the file has it.
+    fn list(self) -> Option<&'a [u8]>
+        ensures { IsGetRangeResult self.entry.bytes.now (onward self.entry.at 4) (list_end self.entry.bytes.now self.entry.at) result }
+    {
+        self.bytes.get(self.skip(4).at..self.behind_list().at)
+    }
+
+    // Whether the mask's bytes stand there.
+    fn has_bytes(self, mask: &[u8]) -> bool
+        ensures { IsTrue result ↔ SameBytes self.entry.bytes.now self.entry.at mask.now }
+    {
+        for (i, b) in mask.iter().enumerate() {
+            if *b != self.skip(i).byte() {
+                return false;
+            }
+        }
+        true
+    }
+
+    // Whether the eight bytes there are a checksum's.
+    fn has_checksum(self, h: u64) -> bool
+        ensures { IsTrue result ↔ (h ≡ wide_at self.entry.bytes.now self.entry.at) }
+    {
+        (h % 0x1_0000_0000) as usize == self.word()
+            && (h / 0x1_0000_0000) as usize == self.skip(4).word()
+    }
+
+    // Whether a mask is the one behind the numbers.
+    fn has_mask(self, mask: &[u8]) -> bool
+        ensures { IsTrue result ↔ MaskAgrees self.entry.bytes.now self.entry.at mask.now }
+    {
+        if self.skip(82).byte() == 1 {
+            return self.skip(83).has_bytes(mask);
+        }
+        self.skip(83).has_checksum(checksum(mask))
     }
 }
 
-#[tactic(auto, unfolding(crate::specs::Reading::transform_at))]
-fn transform_at(s: &[u8], at: usize) -> Transform
-    ensures { result ≡ transform_at s.now at }
-{
-    Transform {
-        xx: float_at(s, at),
-        xy: float_at(s, add(at, 4)),
-        yx: float_at(s, add(at, 8)),
-        yy: float_at(s, add(at, 12)),
-        x: float_at(s, add(at, 16)),
-        y: float_at(s, add(at, 20)),
-    }
-}
-
+// No `From<u8>` here or for the origin: u8 and Fill are both of other crates, and that any byte but 1 is nonzero is this file's rule.
 fn fill_of(b: u8) -> Fill
     ensures { result ≡ fill_of b }
 {
@@ -122,52 +216,10 @@ fn origin_of(b: u8) -> Origin
     Origin::TopLeft
 }
 
-// What stands behind a drawing's list.
-#[tactic(auto, unfolding(crate::specs::Reading::label_at))]
-fn label_at(s: &[u8], at: usize) -> Label
-    ensures { result ≡ label_at s.now at }
-{
-    Label {
-        transform: transform_at(s, at),
-        offset: point_at(s, add(at, 24)),
-        fill: fill_of(byte_at(s, add(at, 32))),
-        up: byte_at(s, add(at, 33)) == 1,
-        width: word_at(s, add(at, 34)),
-        height: word_at(s, add(at, 38)),
-        pitch: word_at(s, add(at, 42)),
-        first: word_at(s, add(at, 46)),
-        end: word_at(s, add(at, 50)),
-    }
-}
-
-fn fill_mask(mask: &mut [u8])
-    ensures { mask.new ≡ replicate (length mask.old) OLD_BYTE }
-{
-    mask.fill(OLD_BYTE);
-}
-
-fn fill_words(words: &mut [u32])
-    ensures { words.new ≡ replicate (length words.old) OLD_WORD }
-{
-    words.fill(OLD_WORD);
-}
-
 fn all_words(words: &[u32], v: u32) -> bool
     ensures { IsTrue result ↔ All (λ w. w ≡ v) words.now }
 {
     words.iter().all(|w| *w == v)
-}
-
-// Whether the mask's bytes stand in the file from an index on.
-fn same_bytes(s: &[u8], from: usize, mask: &[u8]) -> bool
-    ensures { IsTrue result ↔ SameBytes s.now from mask.now }
-{
-    for (i, b) in mask.iter().enumerate() {
-        if *b != byte_at(s, add(from, i)) {
-            return false;
-        }
-    }
-    true
 }
 
 // 2^40 + 435.
@@ -175,158 +227,96 @@ const FNV_PRIME: u64 = 0x100_0000_01b3;
 
 const FNV_START: u64 = 0xcbf2_9ce4_8422_2325;
 
-fn times_prime(h: u64) -> u64
-    ensures { result ≡ h * FNV_PRIME % 2 ^ 64 }
-{
-    h.wrapping_mul(FNV_PRIME)
-}
-
-fn wide(b: u8) -> u64
-    ensures { result ≡ b }
-{
-    u64::from(b)
-}
-
 // The 64-bit FNV-1a of the bytes.
 fn checksum(mask: &[u8]) -> u64
     ensures { result ≡ fnv1a mask.now }
 {
-    mask.iter()
-        .fold(FNV_START, |h, b| times_prime(h ^ wide(*b)))
-}
-
-fn same_checksum(s: &[u8], at: usize, h: u64) -> bool
-    ensures { IsTrue result ↔ (h ≡ wide_at s.now at) }
-{
-    if (h % 0x1_0000_0000) as usize != word_at(s, at) {
-        return false;
-    }
-    (h / 0x1_0000_0000) as usize == word_at(s, add(at, 4))
-}
-
-fn mask_agrees(s: &[u8], at: usize, mask: &[u8]) -> bool
-    ensures { IsTrue result ↔ MaskAgrees s.now at mask.now }
-{
-    if byte_at(s, add(at, 82)) == 1 {
-        return same_bytes(s, add(at, 83), mask);
-    }
-    same_checksum(s, add(at, 83), checksum(mask))
-}
-
-#[tactic(auto, unfolding(crate::specs::Agreeing::numbers_at))]
-fn numbers_agree(s: &[u8], at: usize, n: Numbers) -> bool
-    ensures { IsTrue result ↔ (n ≡ numbers_at s.now at) }
-{
-    if n.number as usize != word_at(s, add(at, 58)) {
-        return false;
-    }
-    if n.index as usize != word_at(s, add(at, 62)) {
-        return false;
-    }
-    if n.records as usize != word_at(s, add(at, 66)) {
-        return false;
-    }
-    if n.cells as usize != word_at(s, add(at, 70)) {
-        return false;
-    }
-    n.cut as usize == word_at(s, add(at, 74))
+    mask.iter().fold(
+        FNV_START,
+        |h, b| (h ^ u64::from(*b)).wrapping_mul(FNV_PRIME),
+    )
 }
 
 // All words are zero after 0 and 13, and as they were after every other number.
 fn words_agree(words: &[u32], number: u32) -> bool
     ensures { IsTrue result ↔ All (λ w. w ≡ word_after number) words.now }
 {
-    if number == 0 {
-        return all_words(words, 0);
-    }
-    if number == 13 {
+    if number == 0 || number == u32::from(Refusal::Full) {
         return all_words(words, 0);
     }
     all_words(words, OLD_WORD)
 }
 
 // Draws into the lent memory, and answers whether all is as the file says behind the list.
-fn draw_agrees(s: &[u8], list: &[u8], at: usize, mask: &mut [u8], words: &mut [u32]) -> bool
+fn draw_agrees(behind: Cursor, list: &[u8], mask: &mut [u8], words: &mut [u32]) -> bool
     ensures { let lent = replicate (length mask.old) OLD_BYTE in let kept = replicate (length words.old) OLD_WORD in
-        IsTrue result ↔ Agrees s.now at (draw (label_at s.now at) list.now lent kept) }
+        IsTrue result ↔ Agrees behind.entry.bytes.now behind.entry.at (draw (label_at behind.entry.bytes.now behind.entry.at) list.now lent kept) }
 {
-    fill_mask(mask);
-    fill_words(words);
-    let n = paper::draw(list, label_at(s, at), mask, words);
-    if !numbers_agree(s, at, n) {
-        return false;
-    }
-    if !words_agree(words, n.number) {
-        return false;
-    }
-    mask_agrees(s, at, mask)
+    mask.fill(OLD_BYTE);
+    words.fill(OLD_WORD);
+    let n = paper::draw(list, behind.label(), mask, words);
+    n == behind.numbers() && words_agree(words, n.number) && behind.has_mask(mask)
 }
 
-// Where the list ends that starts with its length.
-fn list_end(s: &[u8], at: usize) -> usize
-    ensures { result ≡ list_end s.now at }
+fn replay_drawing(case: Cursor, mask: &mut [u8], words: &mut [u32]) -> bool
+    ensures { IsTrue result ↔ DrawingAgrees case.entry.bytes.now case.entry.at (length mask.old) (length words.old) }
 {
-    add(add(at, 4), word_at(s, at))
-}
-
-fn replay_drawing(s: &[u8], at: usize, mask: &mut [u8], words: &mut [u32]) -> bool
-    ensures { IsTrue result ↔ DrawingAgrees s.now at (length mask.old) (length words.old) }
-{
-    let start = add(at, 4);
-    let end = list_end(s, at);
-    if end < start {
+    let behind = case.behind_list();
+    let Some(list) = case.list() else {
         return false;
-    }
-    if s.len() < end {
-        return false;
-    }
-    let m = word_at(s, add(end, 78));
+    };
+    let m = behind.skip(78).word();
     if mask.len() < m {
         return false;
     }
-    let w = word_at(s, add(end, 54));
+    let w = behind.skip(54).word();
     if words.len() < w {
         return false;
     }
-    draw_agrees(s, &s[start..end], end, &mut mask[..m], &mut words[..w])
+    draw_agrees(behind, list, &mut mask[..m], &mut words[..w])
 }
 
-fn after_drawing(s: &[u8], at: usize) -> usize
-    ensures { result ≡ after_drawing s.now at }
-{
-    let end = list_end(s, at);
-    if byte_at(s, add(end, 82)) == 1 {
-        return add(add(end, 83), word_at(s, add(end, 78)));
-    }
-    add(end, 91)
+// A kind of case, by where it starts in the file.
+trait Case {
+    ghost number_of: { List ℕ → ℕ → ℕ };
+
+    ghost next_of: { List ℕ → ℕ → ℕ };
+
+    ghost Agrees: { List ℕ → ℕ → ℕ → ℕ → Type 0 };
+
+    // The number that the file says it answers.
+    fn number(case: Cursor) -> usize
+        ensures { result ≡ number_of case.entry.bytes.now case.entry.at };
+
+    // Where the next one starts.
+    fn next(case: Cursor) -> usize
+        ensures { result ≡ next_of case.entry.bytes.now case.entry.at };
+
+    // Whether it is answered as the rules have it; it may use the lent memory.
+    fn agrees(case: Cursor, mask: &mut [u8], words: &mut [u32]) -> bool
+        ensures { IsTrue result ↔ Agrees case.entry.bytes.now case.entry.at (length mask.old) (length words.old) };
 }
 
-fn one_unless(same: bool) -> usize
-    ensures { result ≡ (if same then 0 else 1) }
-{
-    if same {
-        return 0;
-    }
-    1
-}
-
-fn drawings(s: &[u8], from: usize, count: usize, mask: &mut [u8], words: &mut [u32]) -> Tally
-    ensures end { result.at ≡ nth_drawing s.now from count }
-    ensures accepted { result.accepted ≡ accepted_of (drawing_number s.now from) count }
+// Replays so many cases, one behind the other.
+fn replay_cases<C: Case>(first: Cursor, count: usize, mask: &mut [u8], words: &mut [u32]) -> Tally
+    ensures end { result.at ≡ nth (C.next_of first.entry.bytes.now) first.entry.at count }
+    ensures accepted { result.accepted ≡ accepted_of (answered (C.number_of first.entry.bytes.now) (C.next_of first.entry.bytes.now) first.entry.at) count }
     ensures refused { result.accepted + result.refused ≡ count }
     ensures differ { result.differ ≤ count }
-    ensures none_differs { (result.differ ≡ 0) ↔ EachDrawingAgrees s.now from count (length mask.old) (length words.old) }
+    ensures none_differs { (result.differ ≡ 0) ↔ ((k : ℕ) → k < count → C.Agrees first.entry.bytes.now (nth (C.next_of first.entry.bytes.now) first.entry.at k) (length mask.old) (length words.old)) }
 {
-    let mut at = from;
+    let bytes = first.bytes;
+    let mut at = first.at;
     let mut accepted: usize = 0;
     let mut refused: usize = 0;
     let mut differ: usize = 0;
     for _case in 0..count {
-        let number = word_at(s, add(list_end(s, at), 58));
-        accepted = add(accepted, one_unless(number != 0));
-        refused = add(refused, one_unless(number == 0));
-        differ = add(differ, one_unless(replay_drawing(s, at, mask, words)));
-        at = after_drawing(s, at);
+        let case = Cursor { bytes, at };
+        let number = C::number(case);
+        accepted += usize::from(number == 0);
+        refused += usize::from(number != 0);
+        differ += usize::from(!C::agrees(case, mask, words));
+        at = C::next(case);
     }
     Tally {
         at,
@@ -336,24 +326,54 @@ fn drawings(s: &[u8], from: usize, count: usize, mask: &mut [u8], words: &mut [u
     }
 }
 
-fn widen(n: u32) -> usize
-    ensures { result ≡ n }
+// A drawing: a list with its length before it, and behind it a label, an answer and a mask or its checksum.
+struct Drawing;
+
+impl Case for Drawing {
+    ghost number_of = { λ s at. word_at s (onward (list_end s at) 58) };
+
+    ghost next_of = { after_drawing };
+
+    ghost Agrees = { DrawingAgrees };
+
+    fn number(case: Cursor) -> usize {
+        case.behind_list().skip(58).word()
+    }
+
+    fn next(case: Cursor) -> usize {
+        let behind = case.behind_list();
+        if behind.skip(82).byte() == 1 {
+            return behind.skip(83).skip(behind.skip(78).word()).at;
+        }
+        behind.skip(91).at
+    }
+
+    fn agrees(case: Cursor, mask: &mut [u8], words: &mut [u32]) -> bool {
+        replay_drawing(case, mask, words)
+    }
+}
+
+fn drawings(first: Cursor, count: usize, mask: &mut [u8], words: &mut [u32]) -> Tally
+    ensures end { result.at ≡ nth_drawing first.entry.bytes.now first.entry.at count }
+    ensures accepted { result.accepted ≡ accepted_of (drawing_number first.entry.bytes.now first.entry.at) count }
+    ensures refused { result.accepted + result.refused ≡ count }
+    ensures differ { result.differ ≤ count }
+    ensures none_differs { (result.differ ≡ 0) ↔ EachDrawingAgrees first.entry.bytes.now first.entry.at count (length mask.old) (length words.old) }
 {
-    n as usize
+    replay_cases::<Drawing>(first, count, mask, words)
 }
 
 // A float's bits; those of a NaN are fixed.
-fn bits_of(x: f32) -> usize
+fn bits_of(x: f32) -> u32
     ensures { result ≡ bits_of x }
 {
     if x != x {
         return 0x7fc0_0000;
     }
-    let bits = f32::to_bits(x);
-    widen(bits)
+    x.to_bits()
 }
 
-// The signed number that lies 2^24 below n.
+// The signed number that lies 2^24 below n: a cast, since `i32` has no `From<u32>`.
 fn below(n: u32) -> i32
     requires { n ≤ 2 ^ 30 }
     ensures { result +ℤ pos (2 ^ 24) ≡ pos n }
@@ -366,85 +386,70 @@ fn same_signed(x: i32, bits: usize) -> bool
     ensures { IsTrue result ↔ SignedAgrees x bits }
 {
     let n = add(bits, 0x100_0000) % 0x1_0000_0000;
-    if n > 0x4000_0000 {
-        return false;
-    }
-    x == below(n as u32)
+    n <= 0x4000_0000 && x == below(n as u32)
 }
 
-fn place_agrees(s: &[u8], at: usize, n: PlaceNumbers) -> bool
-    ensures { IsTrue result ↔ PlaceAgrees s.now at n }
+// Whether the numbers are those that stand at a place. Field by field: floats are the same by their bits, a NaN too, which `==` does not say.
+fn place_agrees(told: Cursor, n: PlaceNumbers) -> bool
+    ensures { IsTrue result ↔ PlaceAgrees told.entry.bytes.now told.entry.at n }
 {
-    if n.number as usize != word_at(s, at) {
-        return false;
-    }
-    if n.index as usize != word_at(s, add(at, 4)) {
-        return false;
-    }
-    if bits_of(n.offset_x) != word_at(s, add(at, 8)) {
-        return false;
-    }
-    if bits_of(n.offset_y) != word_at(s, add(at, 12)) {
-        return false;
-    }
-    if !same_signed(n.left, word_at(s, add(at, 16))) {
-        return false;
-    }
-    if !same_signed(n.top, word_at(s, add(at, 20))) {
-        return false;
-    }
-    if n.width as usize != word_at(s, add(at, 24)) {
-        return false;
-    }
-    if n.height as usize != word_at(s, add(at, 28)) {
-        return false;
-    }
-    n.cut as usize == word_at(s, add(at, 32))
+    let number = n.number as usize == told.word();
+    let index = n.index as usize == told.skip(4).word();
+    let offset_x = bits_of(n.offset_x) as usize == told.skip(8).word();
+    let offset_y = bits_of(n.offset_y) as usize == told.skip(12).word();
+    let left = same_signed(n.left, told.skip(16).word());
+    let top = same_signed(n.top, told.skip(20).word());
+    let width = n.width as usize == told.skip(24).word();
+    let height = n.height as usize == told.skip(28).word();
+    let cut = n.cut as usize == told.skip(32).word();
+    number && index && offset_x && offset_y && left && top && width && height && cut
 }
 
-fn replay_placement(s: &[u8], at: usize) -> bool
-    ensures { IsTrue result ↔ PlacementAgrees s.now at }
+fn replay_placement(case: Cursor) -> bool
+    ensures { IsTrue result ↔ PlacementAgrees case.entry.bytes.now case.entry.at }
 {
-    let start = add(at, 4);
-    let end = list_end(s, at);
-    if end < start {
+    let behind = case.behind_list();
+    let Some(list) = case.list() else {
         return false;
-    }
-    if s.len() < end {
-        return false;
-    }
-    let t = transform_at(s, end);
-    let o = point_at(s, add(end, 24));
-    let origin = origin_of(byte_at(s, add(end, 32)));
-    let n = paper::placement(&s[start..end], t, o, origin);
-    place_agrees(s, add(end, 33), n)
+    };
+    let t = behind.transform();
+    let o = behind.skip(24).point();
+    let origin = origin_of(behind.skip(32).byte());
+    let n = paper::placement(list, t, o, origin);
+    place_agrees(behind.skip(33), n)
 }
 
-fn placements(s: &[u8], from: usize, count: usize) -> Tally
-    ensures end { result.at ≡ nth_placement s.now from count }
-    ensures accepted { result.accepted ≡ accepted_of (placement_number s.now from) count }
+// A placement: a list with its length before it, and behind it where it was placed and an answer.
+struct Placement;
+
+impl Case for Placement {
+    ghost number_of = { λ s at. word_at s (onward (list_end s at) 33) };
+
+    ghost next_of = { after_placement };
+
+    ghost Agrees = { λ s at _ _. PlacementAgrees s at };
+
+    fn number(case: Cursor) -> usize {
+        case.behind_list().skip(33).word()
+    }
+
+    fn next(case: Cursor) -> usize {
+        case.behind_list().skip(69).at
+    }
+
+    fn agrees(case: Cursor, _mask: &mut [u8], _words: &mut [u32]) -> bool {
+        replay_placement(case)
+    }
+}
+
+fn placements(first: Cursor, count: usize) -> Tally
+    ensures end { result.at ≡ nth_placement first.entry.bytes.now first.entry.at count }
+    ensures accepted { result.accepted ≡ accepted_of (placement_number first.entry.bytes.now first.entry.at) count }
     ensures refused { result.accepted + result.refused ≡ count }
     ensures differ { result.differ ≤ count }
-    ensures none_differs { (result.differ ≡ 0) ↔ EachPlacementAgrees s.now from count }
+    ensures none_differs { (result.differ ≡ 0) ↔ EachPlacementAgrees first.entry.bytes.now first.entry.at count }
 {
-    let mut at = from;
-    let mut accepted: usize = 0;
-    let mut refused: usize = 0;
-    let mut differ: usize = 0;
-    for _case in 0..count {
-        let end = list_end(s, at);
-        let number = word_at(s, add(end, 33));
-        accepted = add(accepted, one_unless(number != 0));
-        refused = add(refused, one_unless(number == 0));
-        differ = add(differ, one_unless(replay_placement(s, at)));
-        at = add(end, 69);
-    }
-    Tally {
-        at,
-        accepted,
-        refused,
-        differ,
-    }
+    replay_cases::<Placement>(first, count, &mut [], &mut [])
 }
 
 // What the cases are, and whose answers were stored for them.
@@ -463,57 +468,51 @@ fn report(rt: &impl Print, d: Tally, p: Tally) -> io::Result<()> {
 }
 
 // Replays a whole file, and says so where it is not one.
-fn replay(rt: &impl Print, s: &[u8], mask: &mut [u8], words: &mut [u32]) -> io::Result<()> {
-    if !same_bytes(s, 0, b"MZREPLAY") {
+fn replay(rt: &impl Print, bytes: &[u8], mask: &mut [u8], words: &mut [u32]) -> io::Result<()> {
+    let file = Cursor { bytes, at: 0 };
+    if !file.has_bytes(b"MZREPLAY") {
         return println!(rt; "not a file of answers");
     }
-    let d = drawings(s, 12, word_at(s, 8), mask, words);
-    let p = placements(s, add(d.at, 4), word_at(s, d.at));
+    let d = drawings(file.skip(12), file.skip(8).word(), mask, words);
+    let behind = file.skip(d.at);
+    let p = placements(behind.skip(4), behind.word());
     let end = p.at;
     report(rt, d, p)?;
-    if end != s.len() {
+    if end != bytes.len() {
         println!(rt; "the file does not end there")?;
     }
     Ok(())
 }
 
-fn file_space() -> [u8; 1048576]
-    ensures { 1048576 ≡ length result }
-{
-    [0; 1048576]
-}
-
-fn mask_space() -> [u8; 65536]
-    ensures { 65536 ≡ length result }
-{
-    [0; 65536]
-}
-
-fn word_space() -> [u32; 69632]
-    ensures { 69632 ≡ length result }
-{
-    [0; 69632]
-}
-
-// Reads until the buffer is full or the input ends, and answers how many bytes it put at the buffer's start.
+// Reads until the buffer is full or the input ends, and answers how many bytes it put at the buffer's start. By hand: what the library has for it
+// fails at an early end or allocates.
 fn read_full<R: Read>(file: &mut R, buf: &mut [u8]) -> io::Result<usize>
-    ensures { IfOk result (λ n. n ≤ length buf.new) }
+    ensures bound { IfOk result (λ n. n ≤ length buf.new) }
+    ensures bytes { IfOk result (λ n. Consumes (R.remaining file.old) (R.remaining file.new) (take n buf.new)) }
+    ensures end { IfOk result (λ n. n < length buf.new → IsAtEnd (R.remaining file.new)) }
 {
     let mut done = 0;
     while done < buf.len() {
         let n = file.read(&mut buf[done..])?;
         if n == 0 {
-            break;
+            return Ok(done);
         }
         done += n;
     }
     Ok(done)
 }
 
+// Memory of one value. Its length is all that its callers need: a proof that looks into a million zeros runs out of stack.
+fn filled<T: Copy, const N: usize>(value: T) -> [T; N]
+    ensures { length result ≡ N }
+{
+    [value; N]
+}
+
 fn replay_file<R: Read>(rt: &impl Print, file: &mut R) -> io::Result<()> {
-    let mut space = file_space();
-    let mut mask = mask_space();
-    let mut words = word_space();
+    let mut space: [u8; 1048576] = filled(0);
+    let mut mask: [u8; 65536] = filled(0);
+    let mut words: [u32; 69632] = filled(0);
     let n = read_full(file, &mut space)?;
     replay(rt, &space[..n], &mut mask, &mut words)
 }

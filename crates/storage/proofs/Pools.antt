@@ -1,13 +1,15 @@
 -- What a caller of the pool needs: an empty pool, when it is full, runs of deposits, and the order of a row's list.
-use Rattle.std.proofs.Common.{◌≡◌, ℕ, zero, suc, ◌+◌, ◌*◌, ◌%◌, ◌<◌, ◌≤◌, true, List, [], ◌∷◌, ◌++◌, length, get_or, replicate, sym, refl, ap, ◌∙◌, subst, append_assoc, append-nil, arith, le-leb}
+use Rattle.std.proofs.Common.{◌≡◌, ℕ, zero, suc, ◌+◌, ◌*◌, ◌%◌, ◌<◌, ◌≤◌, true, List, [], ◌∷◌, ◌++◌, get_or, replicate, sym, refl, ap, ◌∙◌, subst, append_assoc, append-nil, arith, le-leb}
 use lib.ListN.{length-replicate, get_or-replicate, get_or-append}
 use borrow.Author.Tests.{lt-leb}
-use Rattle.storage.specs.declared.Kept.{Kept}
-use Rattle.storage.specs.declared.Kept.TheVariants.{Cells, Full}
-use Rattle.storage.specs.Deposits.{per_row, Deposit, given, known, distinct}
+use Rattle.std.specs.Prelude.{Option, None, Some}
+use Rattle.storage.specs.Deposits.{per_row, Deposit, known, distinct}
 use Rattle.storage.specs.Laws.{distinct_mono}
 use Rattle.storage.specs.Cells.{Named, low, high, Link, next_in, place_at, word, link_at, Holds, columns, Rising}
-use Rattle.storage.specs.Answers.{Room, Within, kept_of, Stored, Storing, Deposited}
+use Rattle.storage.specs.Answers.{Within, kept_of, Stored}
+use Rattle.storage.specs.declared.limits.Sizes.{Sizes}
+use Rattle.storage.specs.declared.Entry.{Entry}
+use Rattle.storage.specs.Storing.{given_of, Storing, Deposited}
 use Rattle.storage.proofs.Sums.{distinct_again}
 
 -- ---- a pool with no cells
@@ -34,43 +36,30 @@ cleared rest rows width =
     empty (replicate rows 0 ++ rest) rows width
     (λ r h. get_or-append (replicate rows 0) rest 0 r (omega (arith, length-replicate {A = ℕ} rows 0)) ∙ get_or-replicate rows r 0 0 h)
 
--- ---- the room of the words
-
-pub room_kept : {ws ws' : List ℕ} {rows cap count : ℕ} (n : ℕ) → Room ws rows cap count → length ws' ≡ length ws → n ≤ cap → Room ws' rows cap n
-room_kept n R e h = record { fits = rw e R.fits; used = h; few_rows = R.few_rows; few_cells = R.few_cells }
-
 -- ---- full, exactly when there are more distinct places than cells
 
-pub exact : (ws : List ℕ) (rows width cap : ℕ) (log : List Deposit) (r : Kept) → Within cap r → Stored ws rows width cap log r → r ≡ kept_of cap (distinct log)
-exact ws rows width cap log (Cells n) h P =
+pub exact : (ws : List ℕ) (rows width cap : ℕ) (log : List Deposit) (r : Option ℕ) → Within cap r → Stored ws rows width cap log r → r ≡ kept_of cap (distinct log)
+exact ws rows width cap log (Some n) h P =
     let e : n ≡ distinct log = P.pool.counted in
     let g : distinct log ≤ cap = omega arith in
-    rw (le-leb (distinct log) cap g) (ap Cells e)
-exact ws rows width cap log Full h g = rw (lt-leb (distinct log) cap g)
+    rw (le-leb (distinct log) cap g) (ap Some e)
+exact ws rows width cap log None h g = rw (lt-leb (distinct log) cap g)
 
 -- a pair for a known place never fails, and takes no cell
 pub known_kept : {ws : List ℕ} {rows width count : ℕ} {log : List Deposit} (ws' : List ℕ) (cap : ℕ) (d : Deposit) → count ≤ cap → Holds ws rows width count log → known log d.place ≡ true
-    → (r : Kept) → Stored ws' rows width cap (log ++ (d ∷ [])) r → r ≡ Cells count
-known_kept {log = log} ws' cap d h P k (Cells n) s = ap Cells (s.pool.counted ∙ distinct_again d log k ∙ sym P.pool.counted)
-known_kept {log = log} ws' cap d h P k Full s = absurd (omega (arith, s, distinct_again d log k, P.pool.counted))
+    → (r : Option ℕ) → Stored ws' rows width cap (log ++ (d ∷ [])) r → r ≡ Some count
+known_kept {log = log} ws' cap d h P k (Some n) s = ap Some (s.pool.counted ∙ distinct_again d log k ∙ sym P.pool.counted)
+known_kept {log = log} ws' cap d h P k None s = absurd (omega (arith, s, distinct_again d log k, P.pool.counted))
 
 -- ---- runs of deposits
 
 module _ {rows width cap count : ℕ} where
-  pub deposited_none : {ws : List ℕ} → count ≤ cap → Deposited ws ws rows width cap count [] (Cells count)
+  pub deposited_none : {ws : List ℕ} → count ≤ cap → Deposited ws ws rows width cap count [] (Some count)
   deposited_none {ws} h = record { long = refl; within = h; told = λ log P. rw append-nil P }
 
-  pub deposited_one : {ws ws' : List ℕ} {row column cover area : ℕ} {r : Kept} → column ≤ width → Storing ws ws' rows cap count row column cover area r
-      → Deposited ws ws' rows width cap count (given row column cover area ∷ []) r
-  deposited_one h s = record { long = s.long; within = s.within; told = λ log P. s.told width log h P }
-
   module _ {ws ws' : List ℕ} {ds : List Deposit} where
-    -- the same, of what a match has told of the answer
-    pub deposited_as : {r r' : Kept} → r ≡ r' → Deposited ws ws' rows width cap count ds r → Deposited ws ws' rows width cap count ds r'
-    deposited_as e a = subst (Deposited ws ws' rows width cap count ds) e a
-
     -- a run behind a run that fitted
-    pub deposited_then : {ws'' : List ℕ} {es : List Deposit} {n : ℕ} {r : Kept} → Deposited ws ws' rows width cap count ds (Cells n) → Deposited ws' ws'' rows width cap n es r
+    pub deposited_then : {ws'' : List ℕ} {es : List Deposit} {n : ℕ} {r : Option ℕ} → Deposited ws ws' rows width cap count ds (Some n) → Deposited ws' ws'' rows width cap n es r
         → Deposited ws ws'' rows width cap count (ds ++ es) r
     deposited_then {ws''} {es} {n} {r} a b = record {
       long = b.long ∙ a.long;
@@ -79,7 +68,7 @@ module _ {rows width cap count : ℕ} where
     }
 
     -- what is too much stays too much
-    pub deposited_full : (es : List Deposit) → Deposited ws ws' rows width cap count ds Full → Deposited ws ws' rows width cap count (ds ++ es) Full
+    pub deposited_full : (es : List Deposit) → Deposited ws ws' rows width cap count ds None → Deposited ws ws' rows width cap count (ds ++ es) None
     deposited_full es a = record {
       long = a.long;
       within = tt;
@@ -88,14 +77,13 @@ module _ {rows width cap count : ℕ} where
           omega (arith, a.told log P);
     }
 
--- one pair more
-pub deposited_more : {ws ws' ws'' : List ℕ} {rows width cap count n row column cover area : ℕ} {ds : List Deposit} {r : Kept}
-    → Deposited ws ws' rows width cap count ds (Cells n) → column ≤ width → Storing ws' ws'' rows cap n row column cover area r
-    → Deposited ws ws'' rows width cap count (ds ++ (given row column cover area ∷ [])) r
-deposited_more a h s = deposited_then a (deposited_one h s)
+-- one pair, and one more
+module _ {s : Sizes} {entry : Entry} {ws' ws'' : List ℕ} {width : ℕ} {r : Option ℕ} (h : entry.column ≤ width) (stored : Storing ws' ws'' s entry r) where
+  pub deposited_one : Deposited ws' ws'' s.rows width s.cap s.count (given_of entry ∷ []) r
+  deposited_one = record { long = stored.long; within = stored.within; told = λ log P. stored.told width log h P }
 
 -- a run into a pool with no cells
-pub whole : {ws ws' : List ℕ} {rows width cap : ℕ} {ds : List Deposit} {r : Kept} (rest : List ℕ) → ws ≡ replicate rows 0 ++ rest
+pub whole : {ws ws' : List ℕ} {rows width cap : ℕ} {ds : List Deposit} {r : Option ℕ} (rest : List ℕ) → ws ≡ replicate rows 0 ++ rest
     → Deposited ws ws' rows width cap 0 ds r → (r ≡ kept_of cap (distinct ds)) × Stored ws' rows width cap ds r
 whole {ws} {ws'} {rows} {width} {cap} {ds} {r} rest e a =
     let s : Stored ws' rows width cap ds r = a.told [] (rw e (cleared rest rows width)) in

@@ -1,7 +1,6 @@
 -- What `insert` and `store` leave, by where the walk ended.
-use Rattle.std.proofs.Common.{◌≡◌, ℕ, zero, suc, ◌+◌, ◌-◌, ◌*◌, ◌^◌, ◌<◌, ◌≤◌, true, false, List, [], ◌∷◌, ◌++◌, length, get_or, sym, refl, ◌∙◌, subst, true≢false, add-one, arith, length-set, le-ltb, lt-ltb, eq-eqb, eqb-true}
-use Rattle.storage.specs.declared.Kept.{Kept}
-use Rattle.storage.specs.declared.Kept.TheVariants.{Cells, Full}
+use Rattle.std.proofs.Common.{◌≡◌, ℕ, zero, suc, ◌+◌, ◌-◌, ◌*◌, ◌^◌, ◌<◌, ◌≤◌, true, false, List, [], ◌∷◌, ◌++◌, length, get_or, sym, refl, ◌∙◌, subst, true≢false, add-one, arith, length-set, eq-eqb, eqb-true}
+use Rattle.std.specs.Prelude.{Option, None, Some}
 use Rattle.storage.specs.Deposits.{per_row, place_of, Deposit, given}
 use Rattle.storage.specs.Cells.{half, low, place_at, next_in, links_of, link_at, link_word, Holds, with_pair, with_cell, with_next, with_back, with_linked, with_new}
 use Rattle.storage.specs.Answers.{Sought, is_at, Stored}
@@ -19,13 +18,6 @@ module _ (ws : List ℕ) (rows count row last place cover area : ℕ) where
 
     next_is : next ≡ link_at ws rows row last
     next_is = rw (f, e) refl
-
-    pub new_far : count < next → ws₃ ≡ with_new ws rows count row last place cover area
-    new_far h = led ∙ rw (lt-ltb count (link_at ws rows row last) (rw next_is at h)) refl
-
-    pub new_near : next ≤ count → {w : ℕ} {ws₄ : List ℕ} → w ≡ link_word rows row next → ws₄ ≡ with_back ws₃ w (count + 1)
-        → ws₄ ≡ with_new ws rows count row last place cover area
-    new_near h e₄ e₅ = rw (e₅, e₄, led, next_is, le-ltb count (link_at ws rows row last) (rw next_is at h)) refl
 
 -- ---- store
 
@@ -46,13 +38,13 @@ before_place ws rows row place (suc k) e f h =
     omega arith
 
 module _ (ws : List ℕ) (rows cap count row column cover area : ℕ) where
-  abbrev pub Told : List ℕ → Kept → Type 0
+  abbrev pub Told : List ℕ → Option ℕ → Type 0
   Told ws' r =
       (width : ℕ) (log : List Deposit) → column ≤ width → Holds ws rows width count log → Stored ws' rows width cap (log ++ (given row column cover area ∷ [])) r
 
   module _ (hrow : row < rows) (last : ℕ) (s : Sought ws rows count row (place_of row column) last) where
     pub at_cell : rows + 4 * count ≤ length ws → is_at ws rows (place_of row column) last ≡ true
-        → (ws₁ ws' : List ℕ) → ws₁ ≡ with_pair ws (rows + 4 * (last - 1)) cover area → ws' ≡ with_back ws₁ row last → Told ws' (Cells count)
+        → (ws₁ ws' : List ℕ) → ws₁ ≡ with_pair ws (rows + 4 * (last - 1)) cover area → ws' ≡ with_back ws₁ row last → Told ws' (Some count)
     at_cell fits i ws₁ ws' e f width log hw P =
         let k = is_at_true ws rows (place_of row column) last i in
         rw (f, e)
@@ -64,14 +56,14 @@ module _ (ws : List ℕ) (rows cap count row column cover area : ℕ) where
       from : (width : ℕ) (log : List Deposit) → Holds ws rows width count log → low (place_at ws rows) row last ≤ place_of row column
       from width log P = before_place ws rows row (place_of row column) last i (omega arith) (s.so width log P).0.1
 
-      pub at_full : cap ≤ count → Told ws Full
+      pub at_full : cap ≤ count → Told ws None
       at_full h width log hw P =
           let L = P.pool.links row last hrow (s.so width log P).0.0 in
           let n = distinct_new (given row column cover area) log (L.gap (place_of row column) (from width log P) (s.so width log P).1) in
           omega (arith, P.pool.counted)
 
       pub at_gap : cover < 2 ^ 32 → area < 2 ^ 32 → rows + 4 * count + 3 < length ws → count + 1 < half
-          → (ws' : List ℕ) → ws' ≡ with_new ws rows count row last (place_of row column) cover area → Told ws' (Cells (count + 1))
+          → (ws' : List ℕ) → ws' ≡ with_new ws rows count row last (place_of row column) cover area → Told ws' (Some (count + 1))
       at_gap hc ha more few ws' e width log hw P =
           let S = s.so width log P in
           rw e

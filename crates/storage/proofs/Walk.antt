@@ -1,9 +1,9 @@
 -- The walks along a row's list. On words of any content they keep to the words. The walk back ends at a cell of the row that is not past the place, or at
 -- the row's start; from there the walk on keeps to the row of a pool, and has passed every lower place.
-use Rattle.std.proofs.Common.{◌≡◌, ℕ, zero, suc, ◌+◌, ◌-◌, ◌*◌, ◌/◌, ◌<◌, ◌≤◌, eqb, List, get_or, refl, ap, ◌∙◌, arith}
+use Rattle.std.proofs.Common.{◌≡◌, ℕ, zero, suc, ◌+◌, ◌-◌, ◌*◌, ◌/◌, ◌<◌, ◌≤◌, List, get_or, refl, ap, ◌∙◌, arith}
 use Rattle.storage.specs.Deposits.{per_row, Deposit}
 use Rattle.storage.specs.Cells.{Named, low, high, Link, place_at, next_in, link_at, Holds}
-use Rattle.storage.specs.Answers.{Upto, Sought, is_at}
+use Rattle.storage.specs.Answers.{Upto, Sought}
 
 pub named_le : (place : ℕ → ℕ) (count row n : ℕ) → Named place count row n → n ≤ count
 named_le place count row zero m = omega arith
@@ -23,24 +23,7 @@ module _ (ws : List ℕ) (rows row : ℕ) where
   low_of zero h = absurd (h refl)
   low_of (suc j) h = refl
 
--- a link that is not 0 names the cell of a place exactly when that cell's place is the place
-pub is_at_cell : (ws : List ℕ) (rows place n : ℕ) → (n ≡ 0 → ⊥) → eqb (get_or ws (rows + 4 * (n - 1)) 0) place ≡ is_at ws rows place n
-is_at_cell ws rows place zero h = absurd (h refl)
-is_at_cell ws rows place (suc k) h = ap (λ (p : ℕ). eqb p place) (place_of ws rows 0 (suc k) h)
-
 -- ---- the walk back
-
--- the row's start is before every place of the row
-pub upto_start : (ws : List ℕ) (rows count row place : ℕ) → place / per_row ≡ row → Upto (place_at ws rows) count row place 0
-upto_start ws rows count row place e = (tt, omega arith)
-
--- a cell that is not past the place, nor before the row
-pub upto_cell : (ws : List ℕ) (rows count row place n here : ℕ) → place / per_row ≡ row → (n ≡ 0 → ⊥) → n ≤ count → here ≡ get_or ws (rows + 4 * (n - 1)) 0
-    → per_row * row ≤ here → here ≤ place → Upto (place_at ws rows) count row place n
-upto_cell ws rows count row place zero here e ne h at from to = absurd (ne refl)
-upto_cell ws rows count row place (suc k) here e ne h at from to =
-    let q : here ≡ place_at ws rows k = at ∙ place_of ws rows row (suc k) ne in
-    ((omega arith, omega arith), omega arith)
 
 -- ---- the walk on
 

@@ -1,11 +1,7 @@
--- Laws of words: all of them filled, the two halves of a word of links, and where it stands.
-use Rattle.std.proofs.Common.{◌≡◌, ℕ, zero, suc, ◌+◌, ◌-◌, ◌*◌, ◌<◌, ◌≤◌, List, ◌++◌, length, drop, replicate, refl, append-nil, arith}
-use lib.Seq.{drop-length}
+-- Laws of words: the two halves of a word of links, and where it stands.
+use Rattle.std.proofs.Common.{◌≡◌, ℕ, zero, suc, ◌+◌, ◌*◌, ◌<◌, ◌≤◌, arith}
 use Rattle.storage.specs.Cells.{half, next_in, back_in, links_of, link_word}
 use Rattle.storage.specs.Answers.{most_cells}
-
-pub fill_all : (d : List ℕ) (v : ℕ) → replicate (length d) v ++ drop (length d) d ≡ replicate (length d) v
-fill_all d v = simp (drop-length, append-nil)
 
 -- ---- the halves of a word of links
 
@@ -20,10 +16,6 @@ pub link_fits : (n : ℕ) → n ≤ most_cells → n < half
 link_fits n h = omega arith
 
 -- ---- where a word of links stands
-
-pub link_word_is : (rows row n : ℕ) → (n ≡ 0 → ⊥) → rows + 4 * (n - 1) + 3 ≡ link_word rows row n
-link_word_is rows row zero h = absurd (h refl)
-link_word_is rows row (suc k) h = omega arith
 
 pub link_word_lt : (rows row count n : ℕ) → row < rows → n ≤ count → link_word rows row n < rows + 4 * count
 link_word_lt rows row count zero h g = omega arith

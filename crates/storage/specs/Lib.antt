@@ -3,3 +3,4 @@ pub mod Table
 pub mod Laws
 pub mod Cells
 pub mod Answers
+pub mod Storing

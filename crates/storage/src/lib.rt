@@ -3,13 +3,19 @@
 // the head to the first cell, from a cell to the next. The link back leads from the head to the cell stored into last, from a cell to the one before it: it
 // saves the walk from the row's start, and no answer turns on it.
 // A place is PER_ROW times the row, plus the column counted from 0 for column -1.
+// Links are numbers with 0 for none, and a cell is four words, since they stand in the words that are lent: there is no heap, and words have no other type.
 // Each function stays inside the words it is lent and ends, whatever they hold.
 #![tactic(auto)]
 
 ghost use Rattle.std.specs.Prelude.{◌≡◌, ◌+◌, ◌*◌, ◌/◌, ◌%◌, ◌^◌, ◌<◌, ◌≤◌, ◌++◌, length, drop, replicate, slice_index};
-ghost use Rattle.storage.specs.Deposits.{per_row};
+ghost use Rattle.storage.specs.Deposits.{per_row, place_of};
 ghost use Rattle.storage.specs.Cells.{place_at, half, next_in, back_in, links_of, link_word, with_sum, with_pair, with_cell, with_next, with_back, with_new};
-ghost use Rattle.storage.specs.Answers.{Room, Upto, Sought, is_at, Storing};
+ghost use Rattle.storage.specs.Answers.{most_rows, Upto, Sought, is_at};
+ghost use Rattle.storage.specs.Storing.{Room, Storing};
+
+mod limits;
+
+pub use limits::Sizes;
 
 // The places of a row, more than it has columns.
 pub const PER_ROW: usize = 8192;
@@ -22,21 +28,17 @@ pub fn clear(ws: &mut [u32], n: usize)
     requires { n ≤ length ws.old }
     ensures { ws.new ≡ replicate n 0 ++ drop n ws.old }
 {
-    let mut i = 0;
-    while i < n {
-        ws[i] = 0;
-        i += 1;
-    }
+    ws[..n].fill(0);
 }
 
 // Every word zero.
 pub fn wipe(ws: &mut [u32])
     ensures { ws.new ≡ replicate (length ws.old) 0 }
 {
-    let n = ws.len();
-    clear(ws, n);
+    ws.fill(0);
 }
 
+// A word as an index: a cast, since `usize` has no `From<u32>`.
 fn wide(x: u32) -> usize
     ensures { result ≡ x }
 {
@@ -73,6 +75,7 @@ fn links(next: usize, back: usize) -> u32
     (next + HALF * back) as u32
 }
 
+// set_next and set_back stay two: one would take the half as an argument and ask which it is.
 fn set_next(ws: &mut [u32], at: usize, n: usize)
     requires { (at < length ws.old) × (n < half) }
     ensures { ws.new ≡ with_next ws.old at n }
@@ -89,18 +92,18 @@ fn set_back(ws: &mut [u32], at: usize, n: usize)
 
 // Walks back from the cell stored into last to one that is not past the place; answers 0, the row's start, where it meets none or that is nearer.
 // `high` falls at each step, so that the walk ends on any words.
-fn walk_back(ws: &[u32], rows: usize, count: usize, row: usize, place: usize) -> usize
-    requires { (row < rows) × (rows + 4 * count ≤ length ws.now) × (place / per_row ≡ row) }
-    ensures { Upto (place_at ws.now rows) count row place result }
+fn walk_back(ws: &[u32], sizes: Sizes, row: usize, place: usize) -> usize
+    requires { Room ws.now sizes × (row < sizes.rows) × (place / per_row ≡ row) }
+    ensures { Upto (place_at ws.now sizes.rows) sizes.count row place result }
 {
     let start = PER_ROW * row;
     let mut high: usize = 0x1_0000_0000;
     let mut link = back_in(ws[row]);
     while link != 0 {
-        if count < link {
+        if sizes.count < link {
             return 0;
         }
-        let at = rows + 4 * (link - 1);
+        let at = sizes.rows + 4 * (link - 1);
         let here = word(ws, at);
         if high <= here {
             return 0;
@@ -121,19 +124,19 @@ fn walk_back(ws: &[u32], rows: usize, count: usize, row: usize, place: usize) ->
 }
 
 // Walks on to the row's last cell that is not past the place. `low` rises at each step, so that the walk ends on any words.
-fn walk_on(ws: &[u32], rows: usize, count: usize, row: usize, place: usize, from: usize) -> usize
-    requires { (row < rows) × (rows + 4 * count ≤ length ws.now) × (place / per_row ≡ row) × (place < 2 ^ 32) × Upto (place_at ws.now rows) count row place from }
-    ensures { Sought ws.now rows count row place result }
+fn walk_on(ws: &[u32], sizes: Sizes, row: usize, place: usize, from: usize) -> usize
+    requires { Room ws.now sizes × (row < sizes.rows) × (place / per_row ≡ row) × Upto (place_at ws.now sizes.rows) sizes.count row place from }
+    ensures { Sought ws.now sizes.rows sizes.count row place result }
 {
     let mut last = from;
     let mut low: usize = 0;
-    let behind = link_word(rows, row, from);
+    let behind = link_word(sizes.rows, row, from);
     let mut next = next_in(ws[behind]);
     while next != 0 {
-        if count < next {
+        if sizes.count < next {
             return last;
         }
-        let at = rows + 4 * (next - 1);
+        let at = sizes.rows + 4 * (next - 1);
         let here = word(ws, at);
         if here < low {
             return last;
@@ -174,7 +177,7 @@ fn link_word(rows: usize, row: usize, last: usize) -> usize
 pub fn sum(a: u32, b: u32) -> u32
     ensures { result ≡ (a + b) % 2 ^ 32 }
 {
-    std::num::wrapping_add_u32(a, b)
+    a.wrapping_add(b)
 }
 
 // Adds to the word at an index.
@@ -185,85 +188,81 @@ fn add_word(ws: &mut [u32], at: usize, x: u32)
     ws[at] = sum(ws[at], x);
 }
 
-// Adds a pair to the cell whose first word is at an index.
-fn add_pair(ws: &mut [u32], at: usize, cover: u32, area: u32)
-    requires { at + 2 < length ws.old }
-    ensures { ws.new ≡ with_pair ws.old at cover area }
-{
-    add_word(ws, at + 1, cover);
-    add_word(ws, at + 2, area);
+// What is stored: a pair, and the row and the column of its place, rows from the band's first, columns from 0 for column -1.
+#[derive(Clone, Copy, Debug, PartialEq, Eq)]
+pub struct Entry {
+    pub row: usize,
+    pub column: usize,
+    pub cover: u32,
+    pub area: u32,
 }
 
-// Writes a cell's four words.
-fn put_cell(ws: &mut [u32], at: usize, place: u32, cover: u32, area: u32, links: u32)
-    requires { at + 3 < length ws.old }
-    ensures { ws.new ≡ with_cell ws.old at place cover area links }
+impl Entry {
+    fn place(self) -> usize
+        requires { (self.row ≤ most_rows) × (self.column < per_row) }
+        ensures { result ≡ place_of self.row self.column }
+    {
+        PER_ROW * self.row + self.column
+    }
+}
+
+// Adds an entry's pair to the cell whose first word is at an index.
+fn add_pair(ws: &mut [u32], at: usize, entry: Entry)
+    requires { at + 2 < length ws.old }
+    ensures { ws.new ≡ with_pair ws.old at entry.cover entry.area }
 {
-    ws[at] = place;
-    ws[at + 1] = cover;
-    ws[at + 2] = area;
+    add_word(ws, at + 1, entry.cover);
+    add_word(ws, at + 2, entry.area);
+}
+
+// Writes the four words of an entry's cell.
+fn put_cell(ws: &mut [u32], at: usize, entry: Entry, links: u32)
+    requires { (at + 3 < length ws.old) × (entry.row ≤ most_rows) × (entry.column < per_row) }
+    ensures { ws.new ≡ with_cell ws.old at (place_of entry.row entry.column) entry.cover entry.area links }
+{
+    ws[at] = entry.place() as u32;
+    ws[at + 1] = entry.cover;
+    ws[at + 2] = entry.area;
     ws[at + 3] = links;
 }
 
-#[derive(Clone, Copy)]
-pub enum Kept {
-    // Stored; the pool now has so many cells.
-    Cells(usize),
-    // One place more than the pool holds.
-    Full,
-}
+// How many cells the pool has now; none, where there is one place more than it holds.
+pub type Kept = Option<usize>;
 
 // Puts a new cell behind last and before the one that followed it: the links of both lead to it, and the head's link back.
 // On words that are no pool's, the one that followed need not be a cell.
-fn insert(
-    ws: &mut [u32],
-    rows: usize,
-    count: usize,
-    row: usize,
-    last: usize,
-    place: u32,
-    cover: u32,
-    area: u32,
-)
-    requires { (row < rows) × (rows + 4 * count + 3 < length ws.old) × (last ≤ count) × (count + 1 < half) }
-    ensures { ws.new ≡ with_new ws.old rows count row last place cover area }
+fn insert(ws: &mut [u32], sizes: Sizes, last: usize, entry: Entry)
+    requires { Room ws.old sizes × (sizes.count < sizes.cap) × (last ≤ sizes.count) × (entry.row < sizes.rows) × (entry.column < per_row) }
+    ensures { ws.new ≡ with_new ws.old sizes.rows sizes.count entry.row last (place_of entry.row entry.column) entry.cover entry.area }
 {
-    let behind = link_word(rows, row, last);
+    let new = sizes.count + 1;
+    let behind = link_word(sizes.rows, entry.row, last);
     let next = next_in(ws[behind]);
-    put_cell(ws, rows + 4 * count, place, cover, area, links(next, last));
-    set_next(ws, behind, count + 1);
-    set_back(ws, row, count + 1);
-    if count < next {
+    put_cell(ws, sizes.rows + 4 * sizes.count, entry, links(next, last));
+    set_next(ws, behind, new);
+    set_back(ws, entry.row, new);
+    if sizes.count < next {
         return;
     }
-    set_back(ws, link_word(rows, row, next), count + 1);
+    set_back(ws, link_word(sizes.rows, entry.row, next), new);
 }
 
-// Stores a pair: in the row's last cell that is not past its place, if that is the place's own, and in a new cell behind it if not.
-pub fn store(
-    ws: &mut [u32],
-    rows: usize,
-    cap: usize,
-    count: usize,
-    row: usize,
-    column: usize,
-    cover: u32,
-    area: u32,
-) -> Kept
-    requires { Room ws.old rows cap count × (row < rows) × (column < per_row) }
-    ensures { Storing ws.old ws.new rows cap count row column cover area result }
+// Stores an entry: in the row's last cell that is not past its place, if that is the place's own, and in a new cell behind it if not.
+pub fn store(ws: &mut [u32], sizes: Sizes, entry: Entry) -> Kept
+    requires { Room ws.old sizes × (entry.row < sizes.rows) × (entry.column < per_row) }
+    ensures { Storing ws.old ws.new sizes entry result }
 {
-    let place = PER_ROW * row + column;
-    let from = walk_back(ws, rows, count, row, place);
-    let last = walk_on(ws, rows, count, row, place, from);
-    if is_at(ws, rows, place, last) {
-        add_pair(ws, rows + 4 * (last - 1), cover, area);
-        set_back(ws, row, last);
-        return Kept::Cells(count);
+    let place = entry.place();
+    let from = walk_back(ws, sizes, entry.row, place);
+    let last = walk_on(ws, sizes, entry.row, place, from);
+    if is_at(ws, sizes.rows, place, last) {
+        add_pair(ws, sizes.rows + 4 * (last - 1), entry);
+        set_back(ws, entry.row, last);
+        return Some(sizes.count);
     }
-    if cap <= count {
-        return Kept::Full;
+    if sizes.cap <= sizes.count {
+        return None;
     }
-    insert(ws, rows, count, row, last, place as u32, cover, area);
-    Kept::Cells(count + 1)
+    insert(ws, sizes, last, entry);
+    Some(sizes.count + 1)
 }

@@ -1,5 +1,5 @@
 -- The lines of a mask: the first l are painted, each lent as a part of the mask and put back.
-use Rattle.std.proofs.Common.{◌≡◌, ℕ, ◌+◌, ◌-◌, ◌*◌, ◌<◌, ◌≤◌, Bool, true, false, List, ◌++◌, length, get_or, take, drop, sym, refl, ap, ◌∙◌, subst, mul-le-mul_left, arith, length-append, length-drop, length-take-le, get_or-drop, get_or-take, get_or-append-add}
+use Rattle.std.proofs.Common.{◌≡◌, ℕ, ◌+◌, ◌-◌, ◌*◌, ◌<◌, ◌≤◌, Bool, true, false, List, ◌++◌, length, get_or, take, drop, sym, ap, ◌∙◌, subst, mul-le-mul_left, arith, length-append, length-drop, length-take-le, get_or-drop, get_or-take, get_or-append-add}
 use native.Mathlib.Decide.{dec_lt, ℕ_discrete}
 use lib.ListN.{get_or-append}
 use borrow.Rule.Slice.PartMut.{put_mid}
@@ -9,9 +9,8 @@ use Rattle.sweep.specs.declared.Fill.{Fill}
 use Rattle.sweep.specs.Pixels.{pixel}
 use Rattle.sweep.specs.Masks.{row_at, Fits, Swept}
 
-pub record Lines (ws d d' : List ℕ) (rows count width : ℕ) (fill : Fill) (up : Bool) (pitch l at : ℕ) : Type 0 where
+pub record Lines (ws d d' : List ℕ) (rows count width : ℕ) (fill : Fill) (up : Bool) (pitch l : ℕ) : Type 0 where
   pub top : l ≤ rows
-  pub at_is : at ≡ pitch * l
   pub long : length d' ≡ length d
   pub kept : (i : ℕ) → ((k x : ℕ) → k < l → x < width → i ≡ pitch * k + x → ⊥) → get_or d' i 0 ≡ get_or d i 0
   pub so : (log : List Deposit) → Holds ws rows width count log → (k x : ℕ) → k < l → x < width → get_or d' (pitch * k + x) 0 ≡ pixel fill log (row_at up rows k) x
@@ -53,54 +52,46 @@ line_lt : (pitch k l : ℕ) → k < l → pitch * k + pitch ≤ pitch * l
 line_lt pitch k l h = omega (arith, mul-le-mul_left pitch h)
 
 module _ {ws d : List ℕ} {rows count width : ℕ} {fill : Fill} {up : Bool} {pitch : ℕ} where
-  pub lines_none : Lines ws d d rows count width fill up pitch 0 0
-  lines_none = record { top = omega arith; at_is = omega arith; long = refl; kept = λ i h. refl; so = λ log P k x h. absurd (omega arith) }
-
-  module _ (fits : width ≤ pitch) {d' : List ℕ} {l at : ℕ} (L : Lines ws d d' rows count width fill up pitch l at) (hl : l < rows)
+  module _ (fits : width ≤ pitch) {d' : List ℕ} {l : ℕ} (L : Lines ws d d' rows count width fill up pitch l) (hl : l < rows)
       (room : pitch * l + width ≤ length d) where
-    inside : at + width ≤ length d'
+    inside : pitch * l + width ≤ length d'
     inside = omega (arith, L)
 
     line_more : (ys : List ℕ) (row : ℕ) → length ys ≡ width → row ≡ row_at up rows l
         → ((log : List Deposit) → Holds ws rows width count log → (x : ℕ) → x < width → get_or ys x 0 ≡ pixel fill log row x)
-        → Lines ws d (put_mid at width d' ys) rows count width fill up pitch (l + 1) (at + pitch)
+        → Lines ws d (put_mid (pitch * l) width d' ys) rows count width fill up pitch (l + 1)
     line_more ys row len is_row told = record {
       top = omega arith;
-      at_is = omega (arith, L.at_is);
-      long = mid_long at width d' ys inside len ∙ L.long;
-      kept = λ i h. kept' i h (dec_lt i at) (dec_lt i (at + width));
+      long = mid_long (pitch * l) width d' ys inside len ∙ L.long;
+      kept = λ i h. kept' i h (dec_lt i (pitch * l)) (dec_lt i (pitch * l + width));
       so = λ log P k x h g. so' log P k x h g (ℕ_discrete k l);
     }
       where
-        kept' : (i : ℕ) → ((k x : ℕ) → k < l + 1 → x < width → i ≡ pitch * k + x → ⊥) → Dec (i < at) → Dec (i < at + width) → get_or (put_mid at width d' ys) i 0 ≡ get_or d i 0
-        kept' i h (yes a) b = mid_before at width d' ys inside len i a ∙ L.kept i (λ k x g. h k x (omega arith))
-        kept' i h (no a) (yes b) = absurd (h l (i - at) (omega arith) (omega arith) (omega (arith, L.at_is)))
-        kept' i h (no a) (no b) = mid_behind at width d' ys inside len i (omega arith) ∙ L.kept i (λ k x g. h k x (omega arith))
+        kept' : (i : ℕ) → ((k x : ℕ) → k < l + 1 → x < width → i ≡ pitch * k + x → ⊥) → Dec (i < pitch * l) → Dec (i < pitch * l + width) → get_or (put_mid (pitch * l) width d' ys) i 0 ≡ get_or d i 0
+        kept' i h (yes a) b = mid_before (pitch * l) width d' ys inside len i a ∙ L.kept i (λ k x g. h k x (omega arith))
+        kept' i h (no a) (yes b) = absurd (h l (i - pitch * l) (omega arith) (omega arith) (omega arith))
+        kept' i h (no a) (no b) = mid_behind (pitch * l) width d' ys inside len i (omega arith) ∙ L.kept i (λ k x g. h k x (omega arith))
 
         so' : (log : List Deposit) → Holds ws rows width count log → (k x : ℕ) → k < l + 1 → x < width → Dec (k ≡ l)
-            → get_or (put_mid at width d' ys) (pitch * k + x) 0 ≡ pixel fill log (row_at up rows k) x
+            → get_or (put_mid (pitch * l) width d' ys) (pitch * k + x) 0 ≡ pixel fill log (row_at up rows k) x
         so' log P k x h g (yes e) =
-            ap (λ (n : ℕ). get_or (put_mid at width d' ys) n 0) (omega (arith, L.at_is, ap (λ (n : ℕ). pitch * n) e)) ∙ mid_inside at width d' ys inside len x g
+            ap (λ (n : ℕ). get_or (put_mid (pitch * l) width d' ys) n 0) (omega (arith, ap (λ (n : ℕ). pitch * n) e)) ∙ mid_inside (pitch * l) width d' ys inside len x g
             ∙ told log P x g ∙ ap (λ (r : ℕ). pixel fill log r x) (is_row ∙ ap (row_at up rows) (sym e))
         so' log P k x h g (no e) =
-            mid_before at width d' ys inside len (pitch * k + x) (omega (arith, line_lt pitch k l (omega arith), L.at_is)) ∙ L.so log P k x (omega arith) g
+            mid_before (pitch * l) width d' ys inside len (pitch * k + x) (omega (arith, line_lt pitch k l (omega arith))) ∙ L.so log P k x (omega arith) g
 
     -- the same, with the part's length as the code has it
     pub lines_more : (n : ℕ) (ys : List ℕ) (row : ℕ) → n ≡ width → length ys ≡ n → row ≡ row_at up rows l
         → ((log : List Deposit) → Holds ws rows width count log → (x : ℕ) → x < width → get_or ys x 0 ≡ pixel fill log row x)
-        → Lines ws d (put_mid at n d' ys) rows count width fill up pitch (l + 1) (at + pitch)
+        → Lines ws d (put_mid (pitch * l) n d' ys) rows count width fill up pitch (l + 1)
     lines_more n ys row e len is_row told =
-        subst (λ (m : ℕ). Lines ws d (put_mid at m d' ys) rows count width fill up pitch (l + 1) (at + pitch)) (sym e) (line_more ys row (len ∙ e) is_row told)
+        subst (λ (m : ℕ). Lines ws d (put_mid (pitch * l) m d' ys) rows count width fill up pitch (l + 1)) (sym e) (line_more ys row (len ∙ e) is_row told)
 
 pub row_up : (up : Bool) (rows l r : ℕ) → up ≡ true → r ≡ rows - 1 - l → r ≡ row_at up rows l
 row_up up rows l r e h = rw e h
 
 pub row_down : (up : Bool) (rows l r : ℕ) → up ≡ false → r ≡ l → r ≡ row_at up rows l
 row_down up rows l r e h = rw e h
-
-pub row_lt : (up : Bool) (rows l r : ℕ) → l < rows → r ≡ row_at up rows l → r < rows
-row_lt true rows l r h e = omega arith
-row_lt false rows l r h e = omega arith
 
 -- the last line fits, so each does
 pub line_fits : {words mask : List ℕ} {rows count width pitch : ℕ} → Fits words mask rows count width pitch → (l : ℕ) → l < rows → pitch * l + width ≤ length mask
@@ -109,7 +100,7 @@ line_fits {pitch = pitch} F l h = omega (arith, F.lines (omega arith), mul-le-mu
     before : {l rows : ℕ} → l < rows → l ≤ rows - 1
     before h = omega arith
 
-pub lines_all : {ws d d' : List ℕ} {rows count width : ℕ} {fill : Fill} {up : Bool} {pitch l at : ℕ} → Lines ws d d' rows count width fill up pitch l at → rows ≤ l
+pub lines_all : {ws d d' : List ℕ} {rows count width : ℕ} {fill : Fill} {up : Bool} {pitch l : ℕ} → Lines ws d d' rows count width fill up pitch l → rows ≤ l
     → Swept ws d d' rows count width fill up pitch
 lines_all L h = record {
   painted = λ log P k x a b. L.so log P k x (omega arith) b;

@@ -1,5 +1,6 @@
 // From cells to bytes, `coverage` and the sweep of the Rust: each row's cells in rising column, a running sum of their cover, a byte a pixel.
 // Each function stays inside the words and the mask it is lent and ends, whatever they hold.
+// Of the pool it takes rows and count, and no `storage::Sizes`: that knows of a cap and of `most_cells`, which the sweep does not ask for (`Fits`).
 #![tactic(auto)]
 
 ghost use Rattle.std.specs.Prelude.{◌≡◌, ◌+◌, ◌-◌, ◌*◌, ◌%◌, ◌^◌, ◌<◌, ◌≤◌, min, length};
@@ -8,7 +9,7 @@ ghost use Rattle.sweep.specs.Rows.{Painted, CellSwept, RowFits, RowSwept};
 ghost use Rattle.sweep.specs.Masks.{Fits, Swept};
 
 // Which pixels are inside.
-#[derive(Clone, Copy)]
+#[derive(Clone, Copy, Debug, PartialEq, Eq)]
 pub enum Fill {
     NonZero,
     EvenOdd,
@@ -18,10 +19,7 @@ pub enum Fill {
 fn capped(n: u32) -> u8
     ensures { result ≡ min 255 n }
 {
-    if n < 256 {
-        return n as u8;
-    }
-    255
+    n.min(255) as u8
 }
 
 // A value shifted right 9 is a number s of 23 bits. Below 0, that is from 2^22 on, it becomes -s - 1.
@@ -60,7 +58,7 @@ pub fn coverage(fill: Fill, v: u32) -> u8
 fn times512(x: u32) -> u32
     ensures { result ≡ (512 * x) % 2 ^ 32 }
 {
-    x % 8388608 * 512
+    x.wrapping_mul(512)
 }
 
 // The byte between cells.
@@ -74,7 +72,7 @@ fn run_byte(fill: Fill, cover: u32) -> u8
 fn cell_byte(fill: Fill, cover: u32, area: u32) -> u8
     ensures { result ≡ byte_of fill (signed ((512 * cover + (2 ^ 32 - area)) % 2 ^ 32)) }
 {
-    coverage(fill, std::num::wrapping_sub_u32(times512(cover), area))
+    coverage(fill, times512(cover).wrapping_sub(area))
 }
 
 // One byte in the columns from low up to high, counted from column -1, which has no byte.
@@ -82,13 +80,9 @@ fn paint(out: &mut [u8], low: usize, high: usize, b: u8)
     requires { high ≤ length out.old + 1 }
     ensures { Painted out.old out.new low high b }
 {
-    let mut i = low;
-    if i == 0 {
-        i = 1;
-    }
-    while i < high {
-        out[i - 1] = b;
-        i += 1;
+    let from = low.max(1);
+    if from < high {
+        out[from - 1..high - 1].fill(b);
     }
 }
 
@@ -162,16 +156,10 @@ pub fn sweep(
     requires { Fits ws.now mask.old rows count width pitch }
     ensures { Swept ws.now mask.old mask.new rows count width fill up pitch }
 {
-    let mut l: usize = 0;
-    let mut at: usize = 0;
-    while l < rows {
-        let mut row = l;
-        if up {
-            row = rows - 1 - l;
-        }
+    for l in 0..rows {
+        let row = if up { rows - 1 - l } else { l };
+        let at = pitch * l;
         let end = at + width;
         sweep_row(ws, rows, count, row, width, fill, &mut mask[at..end]);
-        l += 1;
-        at += pitch;
     }
 }

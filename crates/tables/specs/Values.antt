@@ -1,7 +1,6 @@
 -- docs/RULES.md, section by section: worked values of the rules by which a label is drawn, each by its definition.
-use Rattle.std.specs.Prelude.{ℕ, ◌≡◌, refl, true, false, length, ℤ, pos, neg_ℤ}
+use Rattle.std.specs.Prelude.{ℕ, ◌≡◌, refl, true, false, length, ℤ, pos, neg_ℤ, None, Some}
 use mathlib.Core.List.{List, [], ◌∷◌, ◌++◌, map, flatten}
-use Rattle.std.proofs.Math.Option as option
 use Rattle.std.specs.Float.Ieee.{of_bits, add, mul, neg}
 use Rattle.geometry.specs.Bits.{float, at}
 use Rattle.command.specs.declared.Command.{Command}
@@ -109,8 +108,8 @@ pub record Values : Type 0 where
       × (input_fault identity (at n0 n0) 65537 ≡ 7)
   -- LineTo, QuadTo and CurveTo draw; directly after Close is what has Close before it, and not the first record
   pub drawing : map draws each ≡ false ∷ true ∷ true ∷ true ∷ false ∷ []
-  pub directly : map (λ (c : Command). after_close (option.some c)) each ≡ false ∷ false ∷ false ∷ false ∷ true ∷ []
-  pub not_the_first : after_close option.none ≡ false
+  pub directly : map (λ (c : Command). after_close (Some c)) each ≡ false ∷ false ∷ false ∷ false ∷ true ∷ []
+  pub not_the_first : after_close None ≡ false
   -- ---- points and transforms
   -- (17,19) under 2, 3, 5, 7, 11, 13
   pub a_point : moved (affine n2 n3 n5 n7 n11 n13) (at n17 n19) ≡ at n140 n197

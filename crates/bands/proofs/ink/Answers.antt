@@ -1,17 +1,22 @@
 -- Counted first, so that nothing is painted where a band does not fit; the words are wiped either way.
-use mathlib.Core.Path.{◌≡◌}
+use mathlib.Core.Path.{◌≡◌, sym, ◌∙◌}
 use native.Mathlib.Omega.{arith}
 use lib.ListN.{length}
-use Rattle.bands.proofs.Whole.{inked_full, inked_cells}
+use Rattle.bands.proofs.Whole.{tellable, inked_kept, inked_painted}
 use Rattle.bands.proofs.ink.Goals as goal
+use Rattle.bands.proofs.ink.Goals.{then-is_ok, else-is_ok}
 
-pub returns-in-Full : goal.returns-in-Full
-returns-in-Full c =
-    let same : length c.count.new.words ≡ length c.args.words.now = omega (arith, c.count.auto.words) in
-    inked_full _ _ _ _ _ _ _ c.count.new.words _ c.wipe.ensures same _ _ c.in-Full.is c.count.ensures
+pub told-requires : goal.told-requires
+told-requires c =
+    tellable _ _ _ _ _ c.requires.few_bytes c.count-cells.ensures
 
-pub returns-in-Cells : goal.returns-in-Cells
-returns-in-Cells c =
-    let same : length c.count.new.words ≡ length c.args.words.now = omega (arith, c.count.auto.words) in
-    let again : length c.paint.new.words ≡ length c.args.words.now = omega (arith, c.paint.auto.words, same) in
-    inked_cells _ _ _ _ _ _ _ c.paint.new.words _ _ c.wipe-in-Cells.ensures again _ _ c.in-Cells.is c.count.ensures (rw same at c.paint.ensures)
+pub returns : goal.returns
+returns c =
+    let same : length c.count-cells.new.words ≡ length c.args.words.now = omega (arith, c.count-cells.auto.words) in
+    let long : length c.if-is_ok.words ≡ length c.args.words.now = omega (arith, c.if-is_ok.auto.words, same) in
+    let is = sym c.is_ok.ensures.value in
+    rw c.told.ensures
+    (elim c.if-is_ok.branch [
+      | then-is_ok w ↦ inked_painted _ _ _ _ _ _ _ _ _ c.wipe.ensures long _ c.count-cells.ensures (is ∙ w.if-is_ok.true) _ (rw (same, ← w.mask-is) at w.paint.ensures)
+      | else-is_ok w ↦ rw w.mask-is (inked_kept _ _ _ _ _ _ _ _ _ c.wipe.ensures long _ c.count-cells.ensures (is ∙ w.if-is_ok.false))
+    ])

@@ -9,7 +9,7 @@ use Rattle.cubic.proofs.Going.{Going}
 use Rattle.cubic.proofs.flatten.Given as goal
 
 abbrev pub invariant-loop-arc : goal.invariant-loop-arc
-invariant-loop-arc l = Going l.f l.cap l.initial.ws l.initial.pen (along l.f l.initial.from (cubic_points l.initial.from (point_of l.initial.arc 2) (point_of l.initial.arc 1) l.b)) l.ws l.arc l.top l.pen l.from
+invariant-loop-arc l = Going l.board l.initial.ws l.initial.pen (along l.board.frame l.initial.from (cubic_points l.initial.from (point_of l.initial.arc 2) (point_of l.initial.arc 1) l.b)) l.ws l.arc l.top l.pen l.from
 
 abbrev pub decreases-loop-arc : goal.decreases-loop-arc
 decreases-loop-arc l = steps (stack l.arc l.top)

@@ -8,20 +8,20 @@ use lib.Ieee.{Float, binary32, to_bits, fits, ne, of_fields}
 use lib.Ieee.Compare.{differs_from_itself}
 use denote.Floats.{passes}
 use Rattle.float.specs.declared.Cut.{Cut}
-use Rattle.float.specs.declared.Cut.TheVariants.{Near, Far}
-use Rattle.float.specs.Cut.{sized_of}
+use Rattle.std.specs.Prelude.{Option, None}
+use Rattle.float.specs.Cut.{near, sized_of}
 use Rattle.float.proofs.Fields.{high, low, mid, exp_of, digits_of, no_nan, read, whole_pattern, shifted}
 use Rattle.float.proofs.sized.Goals as goal
 
-at-nan : (b : Bool) (w : Float) → ne w w ≡ true → Far ≡ sized_of w b
+at-nan : (b : Bool) (w : Float) → ne w w ≡ true → None ≡ sized_of w b
 unfolding sized_of
 at-nan b w h = ap (λ (x : Float). sized_of x b) (sym (differs_from_itself w (passes _ h)))
 
-cut-read : (w : Float) (b : Bool) (x : Cut) → T (fits binary32 w) → sized_of (of_fields binary32 (leb (2 ^ 31) (to_bits binary32 w)) (exp_of (to_bits binary32 w)) (digits_of (to_bits binary32 w))) b ≡ x → x ≡ sized_of w b
+cut-read : (w : Float) (b : Bool) (x : Option Cut) → T (fits binary32 w) → sized_of (of_fields binary32 (leb (2 ^ 31) (to_bits binary32 w)) (exp_of (to_bits binary32 w)) (digits_of (to_bits binary32 w))) b ≡ x → x ≡ sized_of w b
 cut-read w b x f p = sym (ap (λ (v : Float). sized_of v b) (read w f) ∙ p)
 
-middle : (b : Bool) (d x : ℕ) → 127 ≤ x → Near b (d / 2 ^ (150 - x)) (not (eqb (d % 2 ^ (150 - x)) 0)) ≡ Near b (d / (1 * 2 ^ (150 - x) % 2 ^ 32)) (not (eqb (d % (1 * 2 ^ (150 - x) % 2 ^ 32)) 0))
-middle b d x h = ap (λ (p : ℕ). Near b (d / p) (not (eqb (d % p) 0))) (sym (shifted (150 - x) (omega arith)))
+middle : (b : Bool) (d x : ℕ) → 127 ≤ x → near b (d / 2 ^ (150 - x)) (not (eqb (d % 2 ^ (150 - x)) 0)) ≡ near b (d / (1 * 2 ^ (150 - x) % 2 ^ 32)) (not (eqb (d % (1 * 2 ^ (150 - x) % 2 ^ 32)) 0))
+middle b d x h = ap (λ (p : ℕ). near b (d / p) (not (eqb (d % p) 0))) (sym (shifted (150 - x) (omega arith)))
 
 pub returns-then-w : goal.returns-then-w
 returns-then-w c = at-nan _ _ c.if-w.true
@@ -37,7 +37,7 @@ pub returns-then-x-lt127 : goal.returns-then-x-lt127
 returns-then-x-lt127 c =
     let fitting : T (fits binary32 c.args.w) = passes _ c.well_formed.0.1 in
     cut-read _ _ _ (fitting)
-    (low _ _ _ _ c.if-x-lt127.true (omega arith) ∙ ap (λ (n : ℕ). Near c.args.below 0 (not (eqb n 0))) (whole_pattern (to_bits binary32 c.args.w)))
+    (low _ _ _ _ c.if-x-lt127.true (omega arith) ∙ ap (λ (n : ℕ). near c.args.below 0 (not (eqb n 0))) (whole_pattern (to_bits binary32 c.args.w)))
 
 pub returns : goal.returns
 returns c =

@@ -1,21 +1,27 @@
 -- `geometry::around_float` meets its contract, by what the cut says (`proofs/Reach.antt`). Assumes nothing.
-use mathlib.Core.Path.{◌≡◌, sym, ◌∙◌}
-use Rattle.float.specs.declared.Cut.TheVariants.{Near}
+use mathlib.Core.Path.{◌≡◌, sym, ap, ◌∙◌}
+use Rattle.std.specs.Prelude.{ℕ, ◌+◌, ◌-◌, ◌^◌, Some}
 use Rattle.float.specs.Cut.{cut_of}
+use Rattle.geometry.specs.Held.{ends}
 use Rattle.geometry.proofs.Reach.{too_far, around_below, around_above, around_far}
 use Rattle.geometry.proofs.around_float.Goals as goal
 
-pub returns-then-whole-ge-REACH : goal.returns-then-whole-ge-REACH
-returns-then-whole-ge-REACH c =
-    let near : cut_of c.args.v ≡ Near c.in-Near.below c.in-Near.whole c.in-Near.rest = sym c.cut_float.ensures ∙ c.in-Near.is in too_far _ _ _ _ (near) c.if-whole-ge-REACH.true
+pub returns-in_err-cut : goal.returns-in_err-cut
+returns-in_err-cut c = c.from_residual.ensures ∙ around_far c.args.v (sym c.cut_float.ensures ∙ c.in_err-cut.was)
 
-pub returns-then-below : goal.returns-then-below
-returns-then-below c =
-    let near : cut_of c.args.v ≡ Near c.in-Near.below c.in-Near.whole c.in-Near.rest = sym c.cut_float.ensures ∙ c.in-Near.is in around_below _ _ _ _ (near) c.if-whole-ge-REACH.false c.if-below.true
+pub returns-then-cut-ge-REACH : goal.returns-then-cut-ge-REACH
+returns-then-cut-ge-REACH c =
+    let near : cut_of c.args.v ≡ Some c.in_ok-cut.cut = sym c.cut_float.ensures ∙ c.in_ok-cut.was in
+    too_far c.args.v _ near c.if-cut-ge-REACH.true
 
-pub returns-else-below : goal.returns-else-below
-returns-else-below c =
-    let near : cut_of c.args.v ≡ Near c.in-Near.below c.in-Near.whole c.in-Near.rest = sym c.cut_float.ensures ∙ c.in-Near.is in around_above _ _ _ _ (near) c.if-whole-ge-REACH.false c.if-below.false
+pub returns-then-cut : goal.returns-then-cut
+returns-then-cut c =
+    let near : cut_of c.args.v ≡ Some c.in_ok-cut.cut = sym c.cut_float.ensures ∙ c.in_ok-cut.was in
+    let n = c.in_ok-cut.cut.whole in
+    ap (λ (r : ℕ). ends (2 ^ 24 - (n + r)) (2 ^ 24 - n)) c.from.ensures ∙ around_below c.args.v _ near c.if-cut-ge-REACH.false c.if-cut.true
 
-pub returns-in-Far : goal.returns-in-Far
-returns-in-Far c = around_far _ (sym c.cut_float.ensures ∙ c.in-Far.is)
+pub returns : goal.returns
+returns c =
+    let near : cut_of c.args.v ≡ Some c.in_ok-cut.cut = sym c.cut_float.ensures ∙ c.in_ok-cut.was in
+    let n = c.in_ok-cut.cut.whole in
+    ap (λ (r : ℕ). ends (2 ^ 24 + n) (2 ^ 24 + (n + r))) c.from.ensures ∙ around_above c.args.v _ near c.if-cut-ge-REACH.false c.if-cut.false

@@ -1,44 +1,36 @@
 -- The same way as `draw`, up to the cells.
 use mathlib.Core.Path.{sym, ◌∙◌}
-use native.Mathlib.Omega.{arith}
-use lib.ListN.{length}
+use Rattle.path.proofs.Telling.{handed_on}
 use Rattle.label.proofs.Sizes.{fitting, short_list}
-use Rattle.label.proofs.Pouring.{pours, early_record}
-use Rattle.label.proofs.Celling.{celled_turned, celled_faulty, celled_full, celled_cells}
+use Rattle.label.proofs.Pouring.{tellable}
+use Rattle.label.proofs.Drawing.{passes}
+use Rattle.label.proofs.Celling.{celled_away, celled_wiped, celled_kept}
 use Rattle.label.proofs.cells.Goals as goal
+use Rattle.label.proofs.cells.Goals.{then-is_err, else-is_err}
 
-pub judge-requires : goal.judge-requires
-judge-requires c =
-    short_list c.args.l _ c.args.mask (length c.args.words.now) (sym c.check.ensures ∙ c.in-Fine.is)
+pub pour-stored-requires : goal.pour-stored-requires
+pour-stored-requires c =
+    let a = rw c.in_ok-checked.was at c.accept.ensures in
+    rw a.0 (fitting c.args.l _ _ _ (passes _ _ _ _ _ a.1).0).lent.heads
 
-pub pour-requires : goal.pour-requires
-pour-requires c =
-    let f = fitting c.args.l (length c.args.list.now) c.args.mask (length c.args.words.now) (sym c.check.ensures ∙ c.in-Fine.is) in
-    pours c.args.l f.sized _ f.lent.heads
+pub told-requires : goal.told-requires
+told-requires c =
+    let a = rw c.in_ok-checked.was at c.accept.ensures in
+    tellable c.in_ok-checked.checked.label _ _ _ (short_list c.args.l _ _ _ (passes _ _ _ _ _ a.1).0) c.pour-stored.ensures.within
 
-pub overflow_cast-result : goal.overflow_cast-result
-overflow_cast-result c =
-    let q = sym c.check.ensures ∙ c.in-Fine.is in
-    let f = fitting c.args.l (length c.args.list.now) c.args.mask (length c.args.words.now) q in
-    let b = short_list c.args.l _ c.args.mask (length c.args.words.now) q in
-    let h = early_record c.args.l f.sized _ _ _ _ b c.in-Full.is c.pour.ensures.within in
-    omega arith
+pub returns-in_err-checked : goal.returns-in_err-checked
+returns-in_err-checked c =
+    rw (handed_on _ _ c.from_residual.ensures.1) (celled_away _ _ _ _ _ (rw c.in_err-checked.was at c.accept.ensures))
 
-pub returns-in-Faulty : goal.returns-in-Faulty
-returns-in-Faulty c = celled_turned _ _ _ _ _ (sym c.check.ensures ∙ c.in-Faulty.is)
-
-pub returns-in-Refused : goal.returns-in-Refused
-returns-in-Refused c =
-    celled_faulty _ _ _ _ (sym c.check.ensures ∙ c.in-Fine.is) _ _ (sym c.judge.ensures ∙ c.in-Refused.is)
-
-pub returns-in-Full : goal.returns-in-Full
-returns-in-Full c =
-    let q = sym c.check.ensures ∙ c.in-Fine.is in
-    let f = fitting c.args.l (length c.args.list.now) c.args.mask (length c.args.words.now) q in
-    celled_full _ _ _ _ q f.sized _ _ (sym c.judge.ensures ∙ c.in-Records.is) _ _ c.pour.ensures _ c.in-Full.is _ c.wipe.ensures
-
-pub returns-in-Cells : goal.returns-in-Cells
-returns-in-Cells c =
-    let q = sym c.check.ensures ∙ c.in-Fine.is in
-    let f = fitting c.args.l (length c.args.list.now) c.args.mask (length c.args.words.now) q in
-    celled_cells _ _ _ _ q f.sized _ _ (sym c.judge.ensures ∙ c.in-Records.is) _ _ c.pour.ensures _ c.in-Cells.is
+pub returns : goal.returns
+returns c =
+    let k = c.in_ok-checked in
+    let a = rw k.was at c.accept.ensures in
+    let p = passes _ _ _ _ _ a.1 in
+    let f = (fitting c.args.l _ _ _ p.0).sized in
+    let poured = rw a.0 at c.pour-stored.ensures in
+    rw c.told.ensures
+    (elim c.if-is_err.branch [
+      | then-is_err w ↦ rw w.words-is (celled_wiped _ _ _ _ p.0 f _ _ p.1 _ _ poured (sym c.is_err.ensures.value ∙ w.if-is_err.true) _ w.wipe.ensures)
+      | else-is_err w ↦ rw w.words-is (celled_kept _ _ _ _ p.0 f _ _ p.1 _ _ poured (sym c.is_err.ensures.value ∙ w.if-is_err.false))
+    ])

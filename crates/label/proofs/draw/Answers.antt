@@ -1,28 +1,26 @@
--- The checks, then the judging, then the ink: each answer is a case of `draw_of`.
-use mathlib.Core.Path.{sym, ◌∙◌}
-use lib.ListN.{length}
+-- A label that is accepted is inked, and one that is not is sent away: each answer is a case of `draw_of`.
+use mathlib.Core.Path.{◌∙◌}
+use Rattle.path.proofs.Telling.{handed_on}
 use Rattle.label.proofs.Sizes.{fitting, short_list}
-use Rattle.label.proofs.Drawing.{draw_is, turned, faulty, drawn}
+use Rattle.label.proofs.Drawing.{draw_is, drawn, passes, sent_away}
 use Rattle.label.proofs.draw.Goals as goal
 
-pub judge-requires : goal.judge-requires
-judge-requires c =
-    short_list c.args.l _ (length c.args.mask.now) (length c.args.words.now) (sym c.check.ensures ∙ c.in-Fine.is)
+pub ink-requires-clause-lent : goal.ink-requires-clause-lent
+ink-requires-clause-lent c =
+    let a = rw c.in_ok-checked.was at c.accept.ensures in
+    rw a.0 (fitting c.args.l _ _ _ (passes _ _ _ _ _ a.1).0).lent
 
-pub ink-requires : goal.ink-requires
-ink-requires c =
-    let q = sym c.check.ensures ∙ c.in-Fine.is in
-    let f = fitting c.args.l (length c.args.list.now) (length c.args.mask.now) (length c.args.words.now) q in
-    record { sized = f.sized; lent = f.lent; few_bytes = short_list c.args.l _ (length c.args.mask.now) (length c.args.words.now) q }
+pub ink-requires-clause-few_bytes : goal.ink-requires-clause-few_bytes
+ink-requires-clause-few_bytes c =
+    let a = rw c.in_ok-checked.was at c.accept.ensures in
+    short_list c.args.l _ _ _ (passes _ _ _ _ _ a.1).0
 
-pub returns-in-Faulty : goal.returns-in-Faulty
-returns-in-Faulty c =
-    turned _ _ _ _ _ _ (sym c.check.ensures ∙ c.in-Faulty.is) ∙ draw_is _ _ _ _
+pub returns-in_err-checked : goal.returns-in_err-checked
+returns-in_err-checked c =
+    rw (handed_on _ _ c.from_residual.ensures.1) (sent_away _ _ _ _ _ _ (rw c.in_err-checked.was at c.accept.ensures) ∙ draw_is _ _ _ _)
 
-pub returns-in-Refused : goal.returns-in-Refused
-returns-in-Refused c =
-    faulty _ _ _ _ _ (sym c.check.ensures ∙ c.in-Fine.is) _ _ (sym c.judge.ensures ∙ c.in-Refused.is) ∙ draw_is _ _ _ _
-
-pub returns-in-Records : goal.returns-in-Records
-returns-in-Records c =
-    drawn _ _ _ _ _ (sym c.check.ensures ∙ c.in-Fine.is) _ _ _ (sym c.judge.ensures ∙ c.in-Records.is) c.ink.ensures ∙ draw_is _ _ _ _
+pub returns : goal.returns
+returns c =
+    let a = rw c.in_ok-checked.was at c.accept.ensures in
+    let p = passes _ _ _ _ _ a.1 in
+    drawn _ _ _ _ _ p.0 _ _ _ p.1 (rw a.0 at c.ink.ensures) ∙ draw_is _ _ _ _

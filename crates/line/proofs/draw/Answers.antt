@@ -1,40 +1,37 @@
 -- Each way through the tests is a case of the rule.
-use mathlib.Core.Path.{sym, ◌∙◌}
-use Rattle.pen.proofs.Adding.{drew_none, drew_give}
-use Rattle.line.proofs.Cases.{marks_skipped, marks_kept, marks_within, marks_level, marks_vertical, marks_slanted, sides_vertical}
+use mathlib.Core.Path.{sym}
+use mathlib.Core.Logic.{◌⊎◌, ⊎_elim}
+use Rattle.pen.proofs.Adding.{drew_give}
+use Rattle.line.proofs.Cases.{marks_within, marks_level, marks_vertical, marks_slanted, sides_vertical}
 use Rattle.line.proofs.Walking.{drew_as}
 use Rattle.line.proofs.draw.Goals as goal
-use Rattle.line.proofs.draw.Goals.{then-l-col+else-l-row, else-l-col}
 
-pub returns-then-skipped : goal.returns-then-skipped
-returns-then-skipped c =
-    drew_as (sym (marks_skipped c.args.f c.args.l (sym c.skipped.ensures ∙ c.if-skipped.true))) (drew_none _ _ c.requires.within)
+-- the tests for the end's cell: one of the two fails
+not_both : {A B : Type 0} → (A × (B → ⊥)) ⊎ (A → ⊥) → A → B → ⊥
+not_both w a b = ⊎_elim (λ v. v.1 b) (λ v. v a) w
 
-pub returns-then-l-row : goal.returns-then-l-row
-returns-then-l-row c =
-    let g = rw c.begin.ensures at c.give.ensures in
+pub returns-then-from-row : goal.returns-then-from-row
+returns-then-from-row c =
+    let g = rw c.begin-from.ensures at c.give.ensures in
     drew_as
-    (sym (marks_kept c.args.f c.args.l (sym c.skipped.ensures ∙ c.if-skipped.false) ∙ marks_within c.args.l c.if-l-col.true c.if-l-row.true))
-    (drew_give _ _ _ _ c.requires.within g.0 g.1)
+    (sym (marks_within c.args.line.ends (rw c.begin-from.ensures at c.if-from-col.true) (rw c.begin-from.ensures at c.if-from-row.true)))
+    (drew_give _ _ _ c.requires.within g.0 g.1)
 
 pub returns-then-l : goal.returns-then-l
 returns-then-l c =
     drew_as
-    (sym (marks_kept c.args.f c.args.l (sym c.skipped.ensures ∙ c.if-skipped.false)
-    ∙ marks_level c.args.l (λ e g. elim c.if-l-col.branch [ then-l-col+else-l-row w ↦ w.if-l-row.false g | else-l-col w ↦ w.if-l-col.false e ]) c.if-l.true))
+    (sym (marks_level c.args.line.ends (not_both (rw c.begin-from.ensures at c.else-from-col.either)) c.if-l.true))
     c.set_cell.ensures
 
 pub returns-then-l-2 : goal.returns-then-l-2
 returns-then-l-2 c =
-    let l = c.args.l in
+    let l = c.args.line.ends in
     drew_as
-    (sym (marks_kept c.args.f l (sym c.skipped.ensures ∙ c.if-skipped.false)
-    ∙ marks_vertical l (λ e g. elim c.if-l-col.branch [ then-l-col+else-l-row w ↦ w.if-l-row.false g | else-l-col w ↦ w.if-l-col.false e ]) c.if-l.false c.if-l-2.true))
+    (sym (marks_vertical l (not_both (rw c.begin-from.ensures at c.else-from-col.either)) c.if-l.false c.if-l-2.true))
     (rw (sides_vertical l c.if-l-2.true) at c.vertical.ensures)
 
 pub returns : goal.returns
 returns c =
     drew_as
-    (sym (marks_kept c.args.f c.args.l (sym c.skipped.ensures ∙ c.if-skipped.false)
-    ∙ marks_slanted c.args.l (λ e g. elim c.if-l-col.branch [ then-l-col+else-l-row w ↦ w.if-l-row.false g | else-l-col w ↦ w.if-l-col.false e ]) c.if-l.false c.if-l-2.false))
-    c.slanted.ensures
+    (sym (marks_slanted c.args.line.ends (not_both (rw c.begin-from.ensures at c.else-from-col.either)) c.if-l.false c.if-l-2.false))
+    (rw c.slope_of.ensures at c.slanted.ensures)

@@ -5,6 +5,5 @@ use Rattle.line.proofs.product.Goals as goal
 
 pub returns : goal.returns
 returns c =
-    let u =
-    begun_line c.args.l _ c.requires.bounded c.requires.slanted (omega arith) in
+    let u = begun_line c.args.slope.ends _ c.args.slope.rated.small c.args.slope.slanted (omega arith) in
     record { under = u.0; exact = u.1 }

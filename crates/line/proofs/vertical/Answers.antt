@@ -14,10 +14,10 @@ loop-at-init c =
     let e = c.begin-at.ensures in
     record {
       point = rw e (record { inx = omega arith; iny = omega arith });
-      few = rw e (let h = c.requires.bounded.by1 in omega arith);
-      level = rw e (row_start c.args.l);
+      few = rw e (let h = c.args.line.bounded.by1 in omega arith);
+      level = rw e (row_start c.args.line.ends);
       done = [];
-      drew = drew_none _ _ c.requires.within;
+      drew = drew_none _ c.requires.within;
       same = refl;
     }
 
@@ -25,7 +25,7 @@ pub loop-at-preserved : goal.loop-at-preserved
 loop-at-preserved c =
     let h = c.loop-at in
     let i = h.invariant in
-    let l = c.args.l in
+    let l = c.args.line.ends in
     let b = ltb l.y1 l.y2 in
     let n = c.loop-at-test.true in
     let e = c.step_row-to.ensures in
@@ -33,19 +33,19 @@ loop-at-preserved c =
     rw e
     (record {
       point = row_point b h.at i.point;
-      few = row_few b h.at l c.requires.bounded.by2 i.few v;
+      few = row_few b h.at l c.args.line.bounded.by2 i.few v;
       level = v;
       done = _;
-      drew = drew_then _ _ i.drew (rw (e, c.row_side-out.ensures) at c.cross-drawn.ensures);
+      drew = drew_then _ i.drew (rw (e, c.row_side-out.ensures) at c.cross-drawn.ensures);
       same = drawn_more i.done _ _ i.same (upright_step l b h.at i.level n);
     })
 
 pub returns : goal.returns
 returns c =
     let i = c.loop-at.invariant in
-    let l = c.args.l in
+    let l = c.args.line.ends in
     let g = c.give.ensures in
     drew_as
     (drawn_all i.done i.same (upright_last l (ltb l.y1 l.y2) _ c.loop-at-test.false)
     ∙ ap (λ (a : At). upright (rows_to l a.row) (row_side l) l a) c.begin-at.ensures)
-    (drew_then _ _ i.drew (drew_give _ _ _ _ i.drew.within g.0 g.1))
+    (drew_then _ i.drew (drew_give _ _ _ i.drew.within g.0 g.1))

@@ -6,7 +6,7 @@ use Rattle.line.proofs.walk.Goals as goal
 
 pub loop-here-init : goal.loop-here-init
 loop-here-init c =
-    record { under = c.requires.under; done = []; drew = drew_none _ _ c.requires.within; same = refl }
+    record { under = c.requires.under; done = []; drew = drew_none _ c.requires.within; same = refl }
 
 pub loop-here-preserved : goal.loop-here-preserved
 loop-here-preserved c =
@@ -15,7 +15,7 @@ loop-here-preserved c =
     record {
       under = t.under;
       done = _;
-      drew = drew_then _ _ i.drew c.cross-drawn.ensures;
+      drew = drew_then _ i.drew c.cross-drawn.ensures;
       same = drawn_more i.done _ _ i.same (crossed_step _ _ _ _ t);
     }
 
@@ -25,4 +25,4 @@ returns c =
     let g = c.give.ensures in
     drew_as
     (drawn_all i.done i.same (crossed_last _ _ _ c.if-here-col.false c.if-here-row.false))
-    (drew_then _ _ i.drew (drew_give _ _ _ _ i.drew.within g.0 g.1))
+    (drew_then _ i.drew (drew_give _ _ _ i.drew.within g.0 g.1))

@@ -4,4 +4,4 @@ use Rattle.paper.proofs.Placing.{bounds_held}
 use Rattle.paper.proofs.bounds.Goals as goal
 
 pub returns : goal.returns
-returns c = rw (c.box_numbers.ensures, c.bounds.ensures) (sym (bounds_held _ _))
+returns c = rw (c.into.ensures, c.bounds.ensures) (sym (bounds_held _ _))

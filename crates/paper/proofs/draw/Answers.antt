@@ -3,4 +3,4 @@ use Rattle.paper.proofs.Draws.{call_draws}
 use Rattle.paper.proofs.draw.Goals as goal
 
 pub returns : goal.returns
-returns c = call_draws _ _ _ _ _ _ _ _ c.numbers_of.ensures c.draw.ensures
+returns c = call_draws _ _ _ _ _ _ _ _ c.into.ensures c.draw.ensures

@@ -3,4 +3,4 @@ use Rattle.paper.proofs.Draws.{call_draws_in_bands}
 use Rattle.paper.proofs.draw_in_bands.Goals as goal
 
 pub returns : goal.returns
-returns c = call_draws_in_bands _ _ _ _ _ _ _ _ _ c.numbers_of.ensures c.draw_in_bands.ensures.told
+returns c = call_draws_in_bands _ _ _ _ _ _ _ _ _ c.into.ensures c.draw_in_bands.ensures.told

@@ -4,4 +4,4 @@ use Rattle.path.proofs.pour.Goals as goal
 
 pub returns : goal.returns
 returns c =
-    poured _ _ _ _ c.requires _ _ c.pool_of-cap.ensures c.clear.ensures _ _ _ _ _ (rw c.frame_of-f.ensures at c.trace_list.ensures)
+    poured _ _ _ _ c.requires _ _ c.frame_of-frame.ensures c.pool_of-cap.ensures c.clear.ensures _ _ _ _ _ c.trace_list.ensures

@@ -1,28 +1,27 @@
-use Prim.Native.Nat.{◌-◌}
-use mathlib.Core.Path.{sym, ◌∙◌}
-use Rattle.list.proofs.Next.{further}
+use Rattle.list.proofs.Given.{gave_end, gave_fault, gave, same_list}
 use Rattle.placing.proofs.Growing.{started, goes_on, ended, turned}
 use Rattle.placing.proofs.box_list.Goals as goal
 
-pub loop-b-init : goal.loop-b-init
-loop-b-init c = started _ _ _ c.start_box-b.ensures
+pub loop-command-init : goal.loop-command-init
+loop-command-init c = (
+  tt,
+  tt,
+  rw c.into_iter-command-iterator.ensures.into_iter_gives c.new-command-items.ensures.whole,
+  rw (c.into_iter-command-iterator.ensures.into_iter_gives, c.new-command-items.ensures.start) (started _ _ _ c.start_box-b.ensures),
+)
 
-pub returns-in-End : goal.returns-in-End
-returns-in-End c =
-    let l = c.loop-b in
-    ended _ _ l.b l.at l.invariant (sym c.step_at.ensures ∙ c.in-End.is)
+pub returns-in_default : goal.returns-in_default
+returns-in_default c =
+    let l = c.loop-command in
+    turned _ _ l.b _ l.invariant.3 _ (gave_fault l.invariant.2 (rw (c.in-Some.is, c.in_default.is) at c.next.ensures.steps))
 
-pub returns-in-Refused : goal.returns-in-Refused
-returns-in-Refused c =
-    let l = c.loop-b in
-    turned _ _ l.b l.at l.invariant _ (sym c.step_at.ensures ∙ c.in-Refused.is)
+pub loop-command-preserved : goal.loop-command-preserved
+loop-command-preserved c =
+    let l = c.loop-command in
+    let g = rw (c.in-Some.is, c.in-Ok.is) at c.next.ensures.steps in
+    (tt, tt, same_list l.invariant.2 g, goes_on _ _ l.b _ l.invariant.3 _ _ (gave l.invariant.2 g) _ c.grow-b.ensures)
 
-pub loop-b-smaller : goal.loop-b-smaller
-loop-b-smaller c =
-    let l = c.loop-b in
-    further _ l.at _ _ (sym c.step_at.ensures ∙ c.in-Command.is)
-
-pub loop-b-preserved : goal.loop-b-preserved
-loop-b-preserved c =
-    let l = c.loop-b in
-    goes_on _ _ l.b l.at l.invariant _ _ (sym c.step_at.ensures ∙ c.in-Command.is) _ c.grow-b.ensures
+pub returns : goal.returns
+returns c =
+    let l = c.loop-command in
+    ended _ _ l.b _ l.invariant.3 (gave_end l.invariant.2 (rw c.in-None.is at c.next.ensures.steps))

@@ -1,11 +1,11 @@
--- The loop keeps the box of the points that were passed (`Growing`); each record is four bytes or more, so it ends.
-use Prim.Native.Nat.{◌-◌}
-use lib.ListN.{length}
+-- The loop keeps the box of the points that were passed (`Growing`), up to where the commands go on.
+use Rattle.std.proofs.Common.{◌≡◌}
 use Rattle.placing.proofs.Growing.{Growing}
 use Rattle.placing.proofs.box_list.Given as goal
 
-abbrev pub invariant-loop-b : goal.invariant-loop-b
-invariant-loop-b l = Growing l.t l.list l.b l.at
-
-abbrev pub decreases-loop-b : goal.decreases-loop-b
-decreases-loop-b l = length l.list - l.at
+abbrev pub invariant-loop-command : goal.invariant-loop-command
+invariant-loop-command l =
+    (goal.iterator-loop-command).can_next l.command-iterator ×
+    (goal.iterator-loop-command).is_finite l.command-iterator ×
+    (l.command-iterator.list.now ≡ l.list) ×
+    Growing l.t l.list l.b l.command-iterator.at

@@ -1,12 +1,8 @@
--- The loop keeps the box so far and the points that are left.
-use Prim.Native.Nat.{◌-◌, ◌≤◌}
-use lib.ListN.{length}
-use lib.Ieee.{nan}
+-- The loop keeps the box so far and the numbers that are left.
+use Rattle.std.proofs.Common.{◌≡◌}
+use Rattle.std.specs.Slice.Iter.{chunks_exact_rest, chunks_exact_size}
 use Rattle.probe.proofs.Pairs.{Going}
 use Rattle.probe.proofs.mz_probe_box.Given as goal
 
-abbrev pub invariant-loop-i : goal.invariant-loop-i
-invariant-loop-i l = Going l.points nan l.around l.i × (2 ≤ length l.points)
-
-abbrev pub decreases-loop-i : goal.decreases-loop-i
-decreases-loop-i l = length l.points - l.i
+abbrev pub invariant-loop-p : goal.invariant-loop-p
+invariant-loop-p l = Going l.points l.around (chunks_exact_rest l.p-iterator) × (chunks_exact_size l.p-iterator ≡ 2)

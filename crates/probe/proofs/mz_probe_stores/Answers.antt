@@ -8,10 +8,10 @@ returns-then-rows-gt-MOST_ROWS c = too_many_rows _ _ _ c.if-rows-gt-MOST_ROWS.tr
 pub returns-then-words-rows : goal.returns-then-words-rows
 returns-then-words-rows c = too_few_words _ _ _ c.if-rows-gt-MOST_ROWS.false c.if-words-rows.true
 
-pub returns-in-Cells : goal.returns-in-Cells
-returns-in-Cells c =
-    all_stored _ _ _ c.if-rows-gt-MOST_ROWS.false c.if-words-rows.false c.pool_of-cap.ensures c.clear.ensures c.store_pairs.ensures _ c.in-Cells.is
+pub returns-in-Some : goal.returns-in-Some
+returns-in-Some c =
+    all_stored _ _ _ c.if-rows-gt-MOST_ROWS.false c.if-words-rows.false c.pool_of-cap.ensures c.clear.ensures c.store_pairs.ensures _ c.in-Some.is
 
-pub returns-in-Full : goal.returns-in-Full
-returns-in-Full c =
-    too_many_places _ _ _ c.if-rows-gt-MOST_ROWS.false c.if-words-rows.false c.pool_of-cap.ensures c.clear.ensures c.store_pairs.ensures c.in-Full.is c.wipe.ensures
+pub returns-in-None : goal.returns-in-None
+returns-in-None c =
+    too_many_places _ _ _ c.if-rows-gt-MOST_ROWS.false c.if-words-rows.false c.pool_of-cap.ensures c.clear.ensures c.store_pairs.ensures c.in-None.is c.wipe.ensures

@@ -4,4 +4,4 @@ use Rattle.probe.proofs.store_pair.Goals as goal
 
 pub returns : goal.returns
 returns c =
-    inside _ _ _ c.if-rows-row.false c.if-column-ge-PER_ROW.false c.store.ensures
+    inside c.if-sizes-entry.false c.if-entry-ge-PER_ROW.false c.store.ensures

@@ -1,4 +1,4 @@
-use Prim.Native.Nat.{ℕ, ◌+◌, ◌^◌}
+use Prim.Native.Nat.{ℕ, ◌^◌}
 use mathlib.Core.Path.{sym, ap, ◌∙◌}
 use native.Mathlib.Omega.{arith}
 use Rattle.pen.proofs.Adding.{drew_none}
@@ -15,18 +15,18 @@ pub returns-then-all_past : goal.returns-then-all_past
 returns-then-all_past c =
     let p = c.args in
     let e = c.all_past.ensures in
-    let none : quad_marks p.f p.a p.c p.b ≡ [] =
+    let none : quad_marks p.board.frame p.quad.a p.quad.c p.quad.b ≡ [] =
     elim c.then-all_past.branch [
-      | then-all_past-via-then-all_past w ↦ past_marks p.f p.a p.c p.b (sym e ∙ w.if-all_past.true)
-      | then-all_past-via-else-all_past+then-all_ahead w ↦ ahead_marks p.f p.a p.c p.b (sym e ∙ w.if-all_past.false) (sym w.all_ahead.ensures ∙ w.if-all_ahead.true)
+      | then-all_past-via-then-all_past w ↦ past_marks p.board.frame p.quad.a p.quad.c p.quad.b (sym e ∙ w.if-all_past.true)
+      | then-all_past-via-else-all_past+then-all_ahead w ↦ ahead_marks p.board.frame p.quad.a p.quad.c p.quad.b (sym e ∙ w.if-all_past.false) (sym w.all_ahead.ensures ∙ w.if-all_ahead.true)
     ]
     in
-    rw none (drew_none p.f p.cap c.requires.within)
+    rw none (drew_none p.board c.requires.within)
 
 pub loop-rest-init : goal.loop-rest-init
 loop-rest-init c =
-    let r = c.requires in
-    going _ _ _ _ c.args.a c.args.c c.args.b _ c.requires.within r.reach_a r.reach_c r.reach_b (c.lines_of-draw.ensures ∙ ap (λ (d : ℕ). 2 ^ doublings 16 d) c.bend_of.ensures)
+    let q = c.args.quad in
+    going _ _ _ q.a q.c q.b _ c.requires.within q.reach_a q.reach_c q.reach_b (c.lines_of-draw.ensures ∙ ap (λ (d : ℕ). 2 ^ doublings 16 d) c.bend_of.ensures)
 
 pub halve-arc-requires : goal.halve-arc-requires
 halve-arc-requires c = omega (arith, room c.loop-rest.invariant.stack c.if-rest-eq0.true)
@@ -46,7 +46,7 @@ bounds-arc-top c = omega (arith, never_full c.loop-rest.invariant.stack)
 pub returns-then-draw-eq0 : goal.returns-then-draw-eq0
 returns-then-draw-eq0 c =
     let p = c.args in
-    rw (drawn_marks p.f p.a p.c p.b (sym c.all_past.ensures ∙ c.if-all_past.false) (sym c.all_ahead.ensures ∙ c.if-all_ahead.false))
+    rw (drawn_marks p.board.frame p.quad.a p.quad.c p.quad.b (sym c.all_past.ensures ∙ c.if-all_past.false) (sym c.all_ahead.ensures ∙ c.if-all_ahead.false))
     (finished c.loop-rest.invariant c.if-rest-eq0.false c.line_to-drawn.ensures c.if-draw-eq0.true)
 
 pub overflow_sub-top : goal.overflow_sub-top

@@ -4,4 +4,4 @@ use Rattle.raster.proofs.finish.Goals as goal
 
 pub returns : goal.returns
 returns c =
-    record { within = c.finish.ensures.within; added = added_then _ _ c.line_to-closed.ensures.added (rw c.line_to-closed.ensures.stands at c.finish.ensures.added) }
+    record { within = c.finish.ensures.within; added = added_then _ c.line_to-closed.ensures.added (rw c.line_to-closed.ensures.stands at c.finish.ensures.added) }

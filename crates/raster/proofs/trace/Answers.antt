@@ -2,23 +2,14 @@
 use Rattle.raster.specs.declared.Stroke.TheVariants.{Move, Line, Quad, Cubic, Close}
 use Rattle.raster.proofs.Told.{told_stroked, moves, lines, bends, curves, closes}
 use Rattle.raster.proofs.trace.Goals as goal
+use Rattle.raster.proofs.trace.Goals.{in-Move, in-Line, in-Quad, in-Cubic, in-Close}
 
-pub returns-in-Move : goal.returns-in-Move
-returns-in-Move c =
-    told_stroked (Move _) c.in-Move.is (moves _ c.move_to-pen.ensures)
-
-pub returns-in-Line : goal.returns-in-Line
-returns-in-Line c =
-    told_stroked (Line _) c.in-Line.is (lines _ c.line_to-pen.ensures)
-
-pub returns-in-Quad : goal.returns-in-Quad
-returns-in-Quad c =
-    told_stroked (Quad _ _) c.in-Quad.is (bends _ _ c.quad_to-pen.ensures)
-
-pub returns-in-Cubic : goal.returns-in-Cubic
-returns-in-Cubic c =
-    told_stroked (Cubic _ _ _) c.in-Cubic.is (curves _ _ _ c.curve_to-pen.ensures)
-
-pub returns-in-Close : goal.returns-in-Close
-returns-in-Close c =
-    told_stroked Close c.in-Close.is (closes c.line_to-pen-in-Close.ensures)
+pub returns : goal.returns
+returns c =
+    elim c.match-s.branch [
+      | in-Move w ↦ told_stroked (Move _) w.in-Move.is (moves _ (rw w.result-is) (rw w.result-is) (rw (w.ws-is, w.result-is) w.move_to-pen.ensures))
+      | in-Line w ↦ told_stroked (Line _) w.in-Line.is (lines _ (rw w.result-is) (rw w.result-is) (rw (w.ws-is, w.result-is) w.line_to-pen.ensures))
+      | in-Quad w ↦ told_stroked (Quad _ _) w.in-Quad.is (bends _ _ (rw w.result-is) (rw w.result-is) (rw (w.ws-is, w.result-is) w.quad_to-pen.ensures))
+      | in-Cubic w ↦ told_stroked (Cubic _ _ _) w.in-Cubic.is (curves _ _ _ (rw w.result-is) (rw w.result-is) (rw (w.ws-is, w.result-is) w.curve_to-pen.ensures))
+      | in-Close w ↦ told_stroked Close w.in-Close.is (closes (rw w.result-is) (rw w.result-is) (rw (w.ws-is, w.result-is) w.line_to-pen-in-Close.ensures))
+    ]

@@ -10,12 +10,12 @@ not_true : (b : Bool) → T (not b) → b ≡ false
 not_true true h = absurd h
 not_true false h = refl
 
-pub float_to_bits-bits : goal.float_to_bits-bits
-float_to_bits-bits c = no_nan _ c.if-x.false
+pub float_to_bits-result : goal.float_to_bits-result
+float_to_bits-result c = no_nan _ c.if-x.false
 
 pub returns-then-x : goal.returns-then-x
 unfolding is_nan
 returns-then-x c = rw (differs_from_itself c.args.x (passes _ c.if-x.true))
 
 pub returns : goal.returns
-returns c = let h = not_true _ (no_nan c.args.x c.if-x.false) in rw (h, c.widen.ensures)
+returns c = let h = not_true _ (no_nan c.args.x c.if-x.false) in rw h

@@ -1,49 +1,32 @@
 -- `storage::store` meets its contract, by where the walk ended: at the cell of the place, or at the one that the place goes behind.
-use Rattle.std.proofs.Common.{◌≡◌, ◌+◌, Bool, sym, refl, ◌∙◌, arith}
-use Rattle.storage.specs.Deposits.{place_of}
-use Rattle.storage.specs.Answers.{is_at}
+use Rattle.std.proofs.Common.{◌+◌, sym, refl, ◌∙◌, arith}
 use Rattle.storage.proofs.Words.{link_fits}
 use Rattle.storage.proofs.Stores.{at_cell, at_full, at_gap}
 use Rattle.storage.proofs.store.Goals as goal
 
 pub returns-then-is_at : goal.returns-then-is_at
 returns-then-is_at c =
-    let asked : (b : Bool) → c.is_at.result ≡ b
-    → let a = c.args in
-    is_at a.ws.now a.rows (place_of a.row a.column) c.walk_on-last.result ≡ b = λ b e. sym c.is_at.ensures ∙ e in
-    let a = c.args in
     record {
-      told =
-          at_cell a.ws.now a.rows a.cap a.count a.row a.column a.cover a.area
-          c.requires.1 _ c.walk_on-last.ensures (omega arith) (asked _ c.if-is_at.true) _ _ c.add_pair.ensures c.set_back.ensures;
+      told = at_cell _ _ c.args.sizes.cap _ _ _ _ _ c.requires.1 _ (rw c.place-place.ensures at c.walk_on-last.ensures) (omega arith) (rw c.place-place.ensures at (sym c.is_at.ensures ∙ c.if-is_at.true)) _ _ c.add_pair.ensures c.set_back.ensures;
       long = omega (arith, c.add_pair.auto, c.set_back.auto);
-      within = c.requires.0.used;
+      within = c.args.sizes.used;
     }
 
-pub returns-then-cap-count : goal.returns-then-cap-count
-returns-then-cap-count c =
-    let asked : (b : Bool) → c.is_at.result ≡ b
-    → let a = c.args in
-    is_at a.ws.now a.rows (place_of a.row a.column) c.walk_on-last.result ≡ b = λ b e. sym c.is_at.ensures ∙ e in
-    let a = c.args in
+pub returns-then-sizes : goal.returns-then-sizes
+returns-then-sizes c =
     record {
-      told =
-          at_full a.ws.now a.rows a.cap a.count a.row a.column a.cover a.area
-          c.requires.1 _ c.walk_on-last.ensures (omega arith) (asked _ c.if-is_at.false) c.if-cap-count.true;
+      told = at_full _ _ _ _ _ _ _ _ c.requires.1 _ (rw c.place-place.ensures at c.walk_on-last.ensures) (omega arith) (rw c.place-place.ensures at (sym c.is_at.ensures ∙ c.if-is_at.false)) c.if-sizes.true;
       long = refl;
       within = tt;
     }
 
 pub returns : goal.returns
 returns c =
-    let asked : (b : Bool) → c.is_at.result ≡ b
-    → let a = c.args in
-    is_at a.ws.now a.rows (place_of a.row a.column) c.walk_on-last.result ≡ b = λ b e. sym c.is_at.ensures ∙ e in
-    let a = c.args in
+    let s = c.args.sizes in
     record {
       told =
-          at_gap a.ws.now a.rows a.cap a.count a.row a.column a.cover a.area
-          c.requires.1 _ c.walk_on-last.ensures (omega arith) (asked _ c.if-is_at.false) (omega arith) (omega arith) (omega arith) (link_fits (a.count + 1) (omega arith)) _ c.insert.ensures;
+          at_gap _ _ s.cap _ _ _ _ _ c.requires.1 _ (rw c.place-place.ensures at c.walk_on-last.ensures) (omega arith) (rw c.place-place.ensures at (sym c.is_at.ensures ∙ c.if-is_at.false)) (omega arith) (omega arith)
+          (omega arith) (link_fits (s.count + 1) (omega arith)) _ c.insert.ensures;
       long = omega (arith, c.insert.auto);
       within = omega arith;
     }

@@ -4,7 +4,7 @@ use Rattle.storage.proofs.Walk.{Walk}
 use Rattle.storage.proofs.walk_on.Given as goal
 
 abbrev pub invariant-loop-next : goal.invariant-loop-next
-invariant-loop-next l = Walk l.ws l.rows l.count l.row l.place l.last l.low l.next
+invariant-loop-next l = Walk l.ws l.sizes.rows l.sizes.count l.row l.place l.last l.low l.next
 
 abbrev pub decreases-loop-next : goal.decreases-loop-next
 decreases-loop-next l = l.place + 1 - l.low

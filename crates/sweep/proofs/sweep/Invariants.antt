@@ -1,10 +1,6 @@
 -- `sweep::sweep` meets its contract, line by line.
-use Rattle.std.proofs.Common.{◌-◌}
 use Rattle.sweep.proofs.Lines.{Lines}
 use Rattle.sweep.proofs.sweep.Given as goal
 
 abbrev pub invariant-loop-l : goal.invariant-loop-l
-invariant-loop-l l = Lines l.ws l.initial.mask l.mask l.rows l.count l.width l.fill l.up l.pitch l.l l.at
-
-abbrev pub decreases-loop-l : goal.decreases-loop-l
-decreases-loop-l l = l.rows - l.l
+invariant-loop-l l = Lines l.ws l.initial.mask l.mask l.rows l.count l.width l.fill l.up l.pitch l.l

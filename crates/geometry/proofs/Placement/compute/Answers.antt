@@ -20,32 +20,41 @@ shifting o a b p q h k = ap (λ (x : Point). placed_between o x b) h ∙ ap (pla
 read : {z y : ℤ} → mag z < 2 ^ 31 → z ≡ y → to_z w32 (of_z w32 z) ≡ y
 read {z} {y} h p = to_z-of_z {w = w32} {z = z} (record { sfits = h }) ∙ p
 
+pub returns-in_err-across : goal.returns-in_err-across
+returns-in_err-across c =
+    let o = c.args.origin in
+    c.from_residual.ensures
+    ∙ x_outside o c.plus-min.result c.plus-max.result (beyond _ _ (sym c.span_of.ensures ∙ c.in_err-across.was))
+    ∙ shifting o _ _ _ _ c.plus-min.ensures c.plus-max.ensures
+
+pub returns-in_err-upright : goal.returns-in_err-upright
+returns-in_err-upright c =
+    let o = c.args.origin in
+    c.from_residual-in_err-upright.ensures
+    ∙ y_outside o c.plus-min.result c.plus-max.result (beyond _ _ (sym c.span_of-2.ensures ∙ c.in_err-upright.was))
+    ∙ shifting o _ _ _ _ c.plus-min.ensures c.plus-max.ensures
+
 pub own_value-requires : goal.own_value-requires
 own_value-requires c =
-    let across : Spans c.plus-min.result.x c.plus-max.result.x c.in-Over.left c.in-Over.width = spans _ _ _ _ (sym c.span_of.ensures ∙ c.in-Over.is) in omega (arith, (across).low)
+    let across : Spans c.plus-min.result.x c.plus-max.result.x c.in_ok-across.across = spans _ _ _ (sym c.span_of.ensures ∙ c.in_ok-across.was) in
+    omega (arith, across.low)
 
 pub top_of-requires : goal.top_of-requires
 top_of-requires c =
-    let upright : Spans c.plus-min.result.y c.plus-max.result.y c.in-Over-span_of.top c.in-Over-span_of.height = spans _ _ _ _ (sym c.span_of-in-Over.ensures ∙ c.in-Over-span_of.is) in omega (arith, (upright).low, (upright).short)
+    let upright : Spans c.plus-min.result.y c.plus-max.result.y c.in_ok-upright.upright = spans _ _ _ (sym c.span_of-2.ensures ∙ c.in_ok-upright.was) in
+    omega (arith, upright.low, upright.short)
 
-pub own_value-requires-in-Over-span_of : goal.own_value-requires-in-Over-span_of
-own_value-requires-in-Over-span_of c =
-    let upright : Spans c.plus-min.result.y c.plus-max.result.y c.in-Over-span_of.top c.in-Over-span_of.height = spans _ _ _ _ (sym c.span_of-in-Over.ensures ∙ c.in-Over-span_of.is) in raised_low c.args.origin _ _ _ c.top_of.ensures (upright).low (upright).short
+pub own_value-requires-2 : goal.own_value-requires-2
+own_value-requires-2 c =
+    let upright : Spans c.plus-min.result.y c.plus-max.result.y c.in_ok-upright.upright = spans _ _ _ (sym c.span_of-2.ensures ∙ c.in_ok-upright.was) in
+    raised_low c.args.origin _ _ _ c.top_of.ensures upright.low upright.short
 
-pub returns-in-Over-span_of : goal.returns-in-Over-span_of
-returns-in-Over-span_of c =
-    let across : Spans c.plus-min.result.x c.plus-max.result.x c.in-Over.left c.in-Over.width = spans _ _ _ _ (sym c.span_of.ensures ∙ c.in-Over.is) in
-    let upright : Spans c.plus-min.result.y c.plus-max.result.y c.in-Over-span_of.top c.in-Over-span_of.height = spans _ _ _ _ (sym c.span_of-in-Over.ensures ∙ c.in-Over-span_of.is) in let s = c.args in
-    placed_at s.origin _ _ _ _ _ _ _ _ _ _ _ (across) (upright) c.floor.ensures c.floor-in-Over-span_of.ensures
-    (read c.own_value.type_inv c.own_value.ensures) c.top_of.ensures (read c.own_value-in-Over-span_of.type_inv c.own_value-in-Over-span_of.ensures)
-    ∙ shifting s.origin _ _ _ _ c.plus-min.ensures c.plus-max.ensures
-
-pub returns-in-Beyond-span_of : goal.returns-in-Beyond-span_of
-returns-in-Beyond-span_of c = let s = c.args in
-    y_outside s.origin _ _ (beyond _ _ (sym c.span_of-in-Over.ensures ∙ c.in-Beyond-span_of.is))
-    ∙ shifting s.origin _ _ _ _ c.plus-min.ensures c.plus-max.ensures
-
-pub returns-in-Beyond : goal.returns-in-Beyond
-returns-in-Beyond c = let s = c.args in
-    x_outside s.origin _ _ (beyond _ _ (sym c.span_of.ensures ∙ c.in-Beyond.is))
-    ∙ shifting s.origin _ _ _ _ c.plus-min.ensures c.plus-max.ensures
+pub returns : goal.returns
+returns c =
+    let o = c.args.origin in
+    let across : Spans c.plus-min.result.x c.plus-max.result.x c.in_ok-across.across = spans _ _ _ (sym c.span_of.ensures ∙ c.in_ok-across.was) in
+    let upright : Spans c.plus-min.result.y c.plus-max.result.y c.in_ok-upright.upright = spans _ _ _ (sym c.span_of-2.ensures ∙ c.in_ok-upright.was) in
+    let left = read c.own_value.type_inv c.own_value.ensures in
+    let top = read c.own_value-2.type_inv c.own_value-2.ensures in
+    placed_at o c.plus-min.result c.plus-max.result _ _ _ _ _ _ _ across upright c.floor.ensures c.floor-2.ensures left c.top_of.ensures top
+    ∙ shifting o _ _ _ _ c.plus-min.ensures c.plus-max.ensures

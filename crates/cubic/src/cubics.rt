@@ -1,0 +1,19 @@
+// A cubic within reach.
+#![tactic(auto)]
+
+ghost use Rattle.line.specs.Range.{Reach};
+
+use fixed::FixedPoint;
+
+// From a to b, with the control points c and d.
+#[derive(Clone, Copy, Debug, PartialEq, Eq)]
+pub struct Cubic {
+    pub a: FixedPoint,
+    pub c: FixedPoint,
+    pub d: FixedPoint,
+    pub b: FixedPoint,
+    pub ghost reach_a: { Reach a },
+    pub ghost reach_c: { Reach c },
+    pub ghost reach_d: { Reach d },
+    pub ghost reach_b: { Reach b },
+}

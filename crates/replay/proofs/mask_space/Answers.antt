@@ -1,7 +1,0 @@
--- As many zeros as it says.
-use Rattle.std.proofs.Common.{ℕ, sym}
-use Rattle.std.proofs.lemmas.List.{length-replicate}
-use Rattle.replay.proofs.mask_space.Goals as goal
-
-pub returns : goal.returns
-returns c = sym (length-replicate {A = ℕ} 65536 0)
