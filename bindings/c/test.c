@@ -14,6 +14,7 @@
 #include <math.h>
 #include <stdio.h>
 #include <string.h>
+#include <xmmintrin.h>
 
 #ifdef __cplusplus
 #include <vector>
@@ -1362,6 +1363,25 @@ static void offsets_are_judged_in_order(void) {
     check(bounds.number == MZ_FLOAT && bounds.index == 0, "bounds: 6 before 18");
 }
 
+/* 6 is told with nothing computed of what is not finite: the processor's flag for an invalid operation stays down, so that
+   a caller who lets it trap is answered too. */
+static void what_is_not_finite_raises_no_flag(void) {
+    static const float endless[] = {INFINITY, -INFINITY, NAN};
+    List list = rectangle();
+    for (size_t at = 0; at < LENGTH(endless); at += 1) {
+        _mm_setcsr(_mm_getcsr() & ~(unsigned)_MM_EXCEPT_MASK);
+        MzLabel label = mz_label(4, 3);
+        label.transform.xx = endless[at];
+        expect_refusal(call_for(&list, label), MZ_FLOAT, 0);
+        label = mz_label(4, 3);
+        label.offset_x = endless[at];
+        expect_refusal(call_for(&list, label), MZ_FLOAT, 0);
+        expect_no_place(
+            mz_placement(list.bytes, list.len, mz_identity(), 0, endless[at], false), MZ_FLOAT, 0);
+        check((_mm_getcsr() & _MM_EXCEPT_INVALID) == 0, "no invalid operation before a 6");
+    }
+}
+
 /* Whichever rows are drawn, or none, upward too. With no room for a place 18 comes before 13. */
 static void bands_are_refused_with_18(void) {
     List list = rectangle();
@@ -1669,6 +1689,7 @@ int main(int argc, char **argv) {
     version_is_one();
     rules_examples();
     refusals();
+    what_is_not_finite_raises_no_flag();
     the_record_without_room_is_named();
     nothing_is_drawn_after_close();
     cut_coordinates_are_counted();

@@ -36,11 +36,15 @@ pub fn from_bytes(a: u8, b: u8, c: u8, d: u8) -> f32
     float_of(u32::from_le_bytes([a, b, c, d]))
 }
 
-// Neither a NaN nor an infinity.
+// Neither a NaN nor an infinity. By tests for equality, which raise no flag of the processor at an infinity or a quiet NaN, however they are compiled:
+// the library's word takes x from itself, and a caller that lets an invalid operation trap would not be answered.
 pub fn is_finite(x: f32) -> bool
     ensures { result ≡ finite x }
 {
-    x.is_finite()
+    if x != x {
+        return false;
+    }
+    x != f32::INFINITY && x != -f32::INFINITY
 }
 
 // The size of w, cut. Where the exponent's field x is from 1 to 254 the size is (t + 2^23) / 2^(150 - x).

@@ -133,7 +133,9 @@ pub fn check(l: Label, list: usize, mask: usize, words: usize) -> Result<(), Ref
     path::check_inputs(l.view(), list)
 }
 
-// Checks 1 to 12 and 18: the label, which then has the sizes of one that is drawn, and what its list holds.
+// Checks 1 to 12 and 18: the label, which then has the sizes of one that is drawn, and what its list holds. Inlined, since it would be handed the
+// label in memory and hand it back.
+#[inline(always)]
 pub fn accept(
     list: &[u8],
     l: Label,

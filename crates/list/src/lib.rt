@@ -110,7 +110,8 @@ fn body_of(verb: Verb, body: &[u8]) -> Command
     }
 }
 
-// The record whose header says this length and this kind.
+// The record whose header says this length and this kind. Inlined, as `step_at` is.
+#[inline(always)]
 fn record_of(size: u16, kind: u16, list: &[u8], at: usize) -> Result<Record, Reason>
     requires { at + 4 ≤ length list.now }
     ensures { result ≡ record_of size kind list.now at }
@@ -130,7 +131,8 @@ fn record_of(size: u16, kind: u16, list: &[u8], at: usize) -> Result<Record, Rea
     })
 }
 
-// What stands at a place of a list: a record, the end, or a reason to refuse.
+// What stands at a place of a list: a record, the end, or a reason to refuse. Inlined, since a caller would be handed it in memory.
+#[inline(always)]
 pub fn step_at(list: &[u8], at: usize) -> Result<Option<Record>, Reason>
     ensures { result ≡ step_at list.now at }
 {

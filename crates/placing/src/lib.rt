@@ -57,7 +57,8 @@ fn zero_point() -> Point
     Point { x: 0.0, y: 0.0 }
 }
 
-// Refusals 6 to 12 and 18.
+// Refusals 6 to 12 and 18. Inlined, so that what is refused at once costs no call.
+#[inline(always)]
 fn judge_inputs(list: &[u8], view: View) -> Result<Records, Refused>
     ensures { result ≡ judged_of view.transform view.offset (read_checked view.transform view.offset list.now) }
 {

@@ -248,6 +248,8 @@ fn insert(ws: &mut [u32], sizes: Sizes, last: usize, entry: Entry)
 }
 
 // Stores an entry: in the row's last cell that is not past its place, if that is the place's own, and in a new cell behind it if not.
+// Inlined, since it would be handed its two structs in memory.
+#[inline(always)]
 pub fn store(ws: &mut [u32], sizes: Sizes, entry: Entry) -> Kept
     requires { Room ws.old sizes × (entry.row < sizes.rows) × (entry.column < per_row) }
     ensures { Storing ws.old ws.new sizes entry result }
