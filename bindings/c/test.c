@@ -1363,13 +1363,19 @@ static void offsets_are_judged_in_order(void) {
     check(bounds.number == MZ_FLOAT && bounds.index == 0, "bounds: 6 before 18");
 }
 
+/* ---- the processor's flags, which a caller may let trap */
+
+static void lower_flags(void) { _mm_setcsr(_mm_getcsr() & ~(unsigned)_MM_EXCEPT_MASK); }
+
+static bool raised(unsigned flags) { return (_mm_getcsr() & flags) != 0; }
+
 /* 6 is told with nothing computed of what is not finite: the processor's flag for an invalid operation stays down, so that
    a caller who lets it trap is answered too. */
 static void what_is_not_finite_raises_no_flag(void) {
     static const float endless[] = {INFINITY, -INFINITY, NAN};
     List list = rectangle();
     for (size_t at = 0; at < LENGTH(endless); at += 1) {
-        _mm_setcsr(_mm_getcsr() & ~(unsigned)_MM_EXCEPT_MASK);
+        lower_flags();
         MzLabel label = mz_label(4, 3);
         label.transform.xx = endless[at];
         expect_refusal(call_for(&list, label), MZ_FLOAT, 0);
@@ -1378,8 +1384,78 @@ static void what_is_not_finite_raises_no_flag(void) {
         expect_refusal(call_for(&list, label), MZ_FLOAT, 0);
         expect_no_place(
             mz_placement(list.bytes, list.len, mz_identity(), 0, endless[at], false), MZ_FLOAT, 0);
-        check((_mm_getcsr() & _MM_EXCEPT_INVALID) == 0, "no invalid operation before a 6");
+        check(!raised(_MM_EXCEPT_INVALID), "no invalid operation before a 6");
     }
+}
+
+/* Under the identity nothing is rounded before a coordinate is cut or a side brought to a whole number, and both go by the
+   float's bits: no fraction raises one of the processor's flags, and a caller who lets an inexact result trap is answered. */
+static void fractions_raise_no_flag(void) {
+    static const struct {
+        float side;
+        int32_t down;
+    } cases[] = {
+        {1.25f, 1}, {0.1f, 0}, {0, 0}, {-0.1f, -1}, {-1.25f, -2}, {-3, -3}, {4096.00341796875f, 4096},
+    };
+    for (size_t at = 0; at < LENGTH(cases); at += 1) {
+        float side = cases[at].side;
+        int32_t down = cases[at].down;
+        List list = one_move(side, side);
+        lower_flags();
+        MzPlacement placed = mz_placement(list.bytes, list.len, mz_identity(), 0, 0, false);
+        MzBounds box = mz_bounds(list.bytes, list.len, mz_identity());
+        line_to(&list, 3.3f, 2.7f);
+        Call call = call_of(&list, 4, 3);
+        MzDrawn drawn = draw(&call);
+        check(!raised(_MM_EXCEPT_MASK), "no flag for a fraction");
+        check(placed.number == MZ_ACCEPTED, "a fraction is placed");
+        check(placed.left == down && placed.top == down, "a fraction's left and top");
+        check(placed.width == (side == (float)down ? 0u : 1u), "a fraction's width");
+        check(placed.offset_x == (float)-down && placed.offset_y == (float)-down,
+              "a fraction's offset");
+        check(box.number == MZ_ACCEPTED, "a fraction has a box");
+        check(box.min_x == side && box.max_y == side, "a fraction's box");
+        check(drawn.number == MZ_ACCEPTED, "a fraction is drawn");
+    }
+}
+
+/* A coordinate that is too far ends the reading: what stands behind it, in its point or its record, is not computed. Here 0.1
+   would be added to 1, which is rounded, and infinity multiplied by 0, which is no number. */
+static void nothing_is_computed_behind(float far_one) {
+    MzLabel label = mz_label(4, 3);
+    label.offset_y = 1;
+    List list = one_move(far_one, 0.1f);
+    lower_flags();
+    expect_refusal(call_for(&list, label), MZ_POINT, 0);
+    MzPlacement placed = mz_placement(list.bytes, list.len, mz_identity(), 0, 1, false);
+    expect_no_place(placed, MZ_POINT, 0);
+    check(!raised(_MM_EXCEPT_MASK), "no flag behind a far x");
+    for (unsigned kind = 3; kind <= 4; kind += 1) {
+        list = one_move(0, 0);
+        put_header(&list, kind);
+        put_float(&list, far_one);
+        put_float(&list, 0);
+        for (unsigned at = 2; at < floats_of[kind]; at += 1) {
+            put_float(&list, INFINITY);
+        }
+        lower_flags();
+        expect_refusal(call_for(&list, mz_label(4, 3)), MZ_POINT, 1);
+        expect_no_box(list.bytes, list.len, MZ_POINT, 1);
+        check(!raised(_MM_EXCEPT_MASK), "no flag behind a far point");
+    }
+}
+
+static void nothing_is_computed_behind_a_far_coordinate(void) {
+    static const float far_ones[] = {4097, -4097, 65535.5f, 65536, 1e31f};
+    for (size_t at = 0; at < LENGTH(far_ones); at += 1) {
+        nothing_is_computed_behind(far_ones[at]);
+    }
+    MzLabel label = mz_label(4, 3);
+    label.transform = mz_scale(3, 3);
+    List list = one_move(1366, 0.1f);
+    lower_flags();
+    expect_refusal(call_for(&list, label), MZ_POINT, 0);
+    check(!raised(_MM_EXCEPT_MASK), "no flag behind a far x that is scaled");
 }
 
 /* Whichever rows are drawn, or none, upward too. With no room for a place 18 comes before 13. */
@@ -1690,6 +1766,8 @@ int main(int argc, char **argv) {
     rules_examples();
     refusals();
     what_is_not_finite_raises_no_flag();
+    fractions_raise_no_flag();
+    nothing_is_computed_behind_a_far_coordinate();
     the_record_without_room_is_named();
     nothing_is_drawn_after_close();
     cut_coordinates_are_counted();

@@ -1,16 +1,18 @@
--- What a format's limits say of a float: m has at most 24 digits, e is not below -149, and a float with a fraction is small. Assumes nothing.
-use mathlib.Core.Path.{◌≡◌, sym, ap, ◌∙◌}
+-- What a format's limits say of a float: m has at most 24 digits, e is not below -149, a float with a fraction is small, and so is every near cut. Assumes nothing.
+use mathlib.Core.Path.{◌≡◌, refl, sym, ap, ◌∙◌, subst}
 use mathlib.Core.Logic.{◌⊎◌, inl, inr}
 use Prim.Native.Nat.{ℕ, zero, suc, ◌+◌, ◌*◌, ◌/◌, ◌%◌, ◌^◌, ◌≤◌, ◌<◌}
-use native.Mathlib.Nat.{le_trans, le_of_eq, mul-one, one-mul, mod-one, not-le_of_lt, lt_of_le_of_lt, div-le_self, eq-zero-or-pos, ne_of_gt}
+use native.Mathlib.Nat.{le_trans, le_of_eq, mul-one, one-mul, mod-one, not-le_of_lt, lt_of_le_of_lt, div-le_self, eq-zero-or-pos, zero-mod, ne_of_gt}
 use native.Mathlib.Omega.{arith}
 use mathlib.Core.Bool.{Bool, true, false, not, cond, ◌&&◌}
 use lib.Dec.{T, leb, ltb, eqb, ltb→lt, leb→le, eqb→eq, le→leb, lit<, lit≤}
 use lib.IntN.{ℤ, pos, negsuc}
-use lib.Ieee.{fin, binary32, up, down, fits, lt, of_bits, in_float}
+use lib.Ieee.{Float, nan, inf, fin, binary32, up, down, fits, lt, of_bits, in_float}
 use lib.Ieee.Fits.{and_l, and_r}
-use borrow.Author.Tests.{lt-ltb, le-ltb, eq-eqb, ne_eqb}
-use Rattle.float.specs.Cut.{zero_f}
+use borrow.Author.Tests.{ltb-true, lt-ltb, le-ltb, eq-eqb, ne_eqb}
+use Rattle.float.specs.declared.Cut.{Cut}
+use Rattle.std.specs.Prelude.{Option, None, Some}
+use Rattle.float.specs.Cut.{zero_f, near, sized_of}
 
 pub small_m : (s : Bool) (m : ℕ) (e : ℤ) → T (fits binary32 (fin s m e)) → m < 2 ^ 24
 unfolding fits
@@ -44,6 +46,37 @@ below_zero true m e = go (eq-zero-or-pos (m * up e))
     go : (m * up e ≡ 0) ⊎ (0 < m * up e) → ltb 0 (m * up e * 1 + 0 * down e) ≡ not (eqb (m * up e) 0)
     go (inl z) = le-ltb 0 (m * up e * 1 + 0 * down e) (omega arith) ∙ ap not (sym (eq-eqb _ _ z))
     go (inr p) = lt-ltb 0 (m * up e * 1 + 0 * down e) (omega arith) ∙ ap not (sym (ne_eqb _ _ (ne_of_gt p)))
+
+-- a float with a fraction has its sign shown by the comparison with zero
+pub sign_shown : (s : Bool) (m : ℕ) (e : ℤ) → (m * up e % down e ≡ 0 → ⊥) → lt (fin s m e) zero_f ≡ s
+unfolding lt of_bits
+sign_shown false m e h = le-ltb (m * up e * 1) (0 * down e) (omega arith)
+sign_shown true m e h = lt-ltb 0 (m * up e * 1 + 0 * down e) (go (eq-zero-or-pos (m * up e)))
+  where
+    go : (m * up e ≡ 0) ⊎ (0 < m * up e) → 0 < m * up e * 1 + 0 * down e
+    go (inl z) = absurd (h (ap (λ (x : ℕ). x % down e) z ∙ zero-mod (down e)))
+    go (inr p) = omega arith
+
+-- ---- what is near is below 2 ^ 24
+abbrev pub Within : Option Cut → Type 0
+Within (Some cut) = cut.whole < 2 ^ 24
+Within None = Unit
+
+picked : (b r : Bool) (q : ℕ) → Within (cond (ltb q (2 ^ 24)) (near b q r) None)
+picked b r q = go (ltb q (2 ^ 24)) refl
+  where
+    go : (u : Bool) → ltb q (2 ^ 24) ≡ u → Within (cond u (near b q r) None)
+    go true h = ltb-true _ _ h
+    go false h = tt
+
+pub sized_within : (w : Float) (b : Bool) → Within (sized_of w b)
+unfolding sized_of
+sized_within nan b = tt
+sized_within (inf s) b = tt
+sized_within (fin s m e) b = picked b _ (m * up e / down e)
+
+pub near_small : (w : Float) (x : Option Cut) (b : Bool) (cut : Cut) → x ≡ sized_of w b → x ≡ Some cut → cut.whole < 2 ^ 24
+near_small w x b cut p q = subst Within (sym p ∙ q) (sized_within w b)
 
 -- a number up to 2 ^ 24 is a float
 pub whole_in_float : (n : ℕ) → n ≤ 2 ^ 24 → T (in_float binary32 (pos n))

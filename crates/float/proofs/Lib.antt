@@ -6,4 +6,3 @@ pub mod Rounding
 pub mod Numbers
 pub mod Values
 pub mod Exact
-pub mod Library

@@ -40,7 +40,7 @@ floor_below_zero m e n p =
     size_of (suc a) (suc b) h = let z : a ≡ b = cc in ap suc z
 
 -- ---- the float is that number
-pub size_neg : (z : ℤ) → nat_abs (neg_ℤ z) ≡ nat_abs z
+size_neg : (z : ℤ) → nat_abs (neg_ℤ z) ≡ nat_abs z
 size_neg (pos zero) = refl
 size_neg (pos (suc n)) = refl
 size_neg (negsuc n) = refl

@@ -84,16 +84,28 @@ pub fn cut_float(w: f32) -> Option<Cut>
     sized(w, w < 0.0)
 }
 
-// v rounded down to a whole number.
+// v rounded down to a whole number. What is far is whole already, or is not finite. By its bits: the library's word adds a large number and takes it
+// away again, which raises the processor's flag for an inexact result, and a caller that lets that trap would not be answered.
 pub fn floor(v: f32) -> f32
     ensures { result ≡ floor_of v }
 {
-    v.floor()
+    match cut_float(v) {
+        Some(Cut { below, whole, rest }) => {
+            if rest {
+                if below {
+                    return -((whole + 1) as f32);
+                }
+                return whole as f32;
+            }
+            v
+        }
+        None => v,
+    }
 }
 
 // v rounded up to a whole number.
 pub fn ceil(v: f32) -> f32
     ensures { result ≡ ceil_of v }
 {
-    v.ceil()
+    -floor(-v)
 }

@@ -1,6 +1,6 @@
 -- The points of a command: how they are ruled one after the other, and that their fixed points are within reach.
 use Prim.Native.Nat.{ℕ, ◌+◌, ◌*◌, ◌≤◌}
-use mathlib.Core.Path.{◌≡◌, refl, ap}
+use mathlib.Core.Path.{◌≡◌, refl, sym, ap}
 use mathlib.Core.Bool.{Bool, true, false, cond, ◌&&◌}
 use mathlib.Core.List.{List, [], ◌∷◌, ◌++◌}
 use native.Mathlib.Omega.{arith}
@@ -18,7 +18,8 @@ use Rattle.command.specs.declared.Command.{Command}
 use Rattle.command.specs.declared.Command.TheVariants.{MoveTo, LineTo, QuadTo, CurveTo, Close}
 use Rattle.command.specs.Commands.{points_of}
 use Rattle.raster.specs.Path.{corner}
-use Rattle.std.specs.Prelude.{Ok, Err}
+use Rattle.std.specs.Prelude.{Result, Ok, Err}
+use Rattle.path.specs.declared.Refusal.{Refusal}
 use Rattle.path.specs.declared.Refusal.TheVariants.{Outside}
 use Rattle.path.specs.Reading.{place_of, spot_at, passed, all_pass, cuts_at, ruled, points_ruled, both_ruled, Few}
 use Rattle.path.specs.Strokes.{fixed_at}
@@ -54,6 +55,10 @@ module _ (t : Transform) (o : Point) where
       go true false = refl
       go false b = refl
 
+  -- so what is told of each, or of the first alone where that is refused, is what is told of all
+  pub both_told : (ps qs : List Point) (a b : Result ℕ Refusal) → points_ruled t o ps ≡ a → points_ruled t o qs ≡ b → both_ruled a b ≡ points_ruled t o (ps ++ qs)
+  both_told ps qs a b p q = rw (sym p, sym q) (both_points ps qs)
+
   -- each has two coordinates
   cuts_few : (ps : List Point) → cuts_at t o ps ≤ 2 * length ps
   unfolding cuts_at
@@ -66,6 +71,13 @@ module _ (t : Transform) (o : Point) where
       go : (b : Bool) → Few (ruled (cond b (Ok tt) (Err Outside)) (cuts_at t o ps))
       go true = omega (arith, cuts_few ps)
       go false = tt
+
+  -- so the parts of a record can be added
+  pub few_told : (ps qs : List Point) (m n : ℕ) → length ps ≤ 3 → length qs ≤ 3 → points_ruled t o ps ≡ Ok m → points_ruled t o qs ≡ Ok n → m + n ≤ 12
+  few_told ps qs m n h k p q =
+      let f : m ≤ 6 = rw p at (few_points ps h) in
+      let g : n ≤ 6 = rw q at (few_points qs k) in
+      omega (arith, f, g)
 
   -- and so has every command few that are cut
   pub few_cuts : (k : Command) → cuts_at t o (points_of k) ≤ 6

@@ -9,7 +9,7 @@ ghost use Rattle.line.specs.Range.{Reach};
 ghost use Rattle.raster.specs.Tracing.{ReachAll};
 ghost use Rattle.path.specs.Refusals.{number_of, of_no_record, refusal_of};
 ghost use Rattle.path.specs.Inputs.{finite_point, finite_transform, inputs_of};
-ghost use Rattle.path.specs.Reading.{spot_at, cuts_at, verdict_of, ruled, points_ruled, both_ruled, Few, read_list, judged_of};
+ghost use Rattle.path.specs.Reading.{place_of, spot_at, cuts_at, verdict_of, ruled, points_ruled, read_list, judged_of};
 ghost use Rattle.path.specs.Strokes.{fixed_at, stroke_of};
 ghost use Rattle.path.specs.Pouring.{pool_of, frame_of, Fits, Traced, Poured};
 ghost use Rattle.command.specs.Commands.{points_of};
@@ -119,15 +119,6 @@ fn finite_point(p: Point) -> bool
     float::is_finite(p.x) && float::is_finite(p.y)
 }
 
-// Two parts of a record, one behind the other.
-fn both(a: Result<u32, Refusal>, b: Result<u32, Refusal>) -> Result<u32, Refusal>
-    requires few_a { Few a }
-    requires few_b { Few b }
-    ensures { result ≡ both_ruled a b }
-{
-    Ok(a? + b?)
-}
-
 // The transform and the offset that a list's points are seen under: first the one, and then the other.
 #[derive(Clone, Copy, Debug, PartialEq)]
 pub struct View {
@@ -146,11 +137,20 @@ impl View {
             && finite_point(self.offset)
     }
 
-    // A point of the list, by the point rule.
+    // Where a point of the list is seen.
+    fn place(self, p: Point) -> Point
+        ensures { result ≡ place_of self.transform self.offset p }
+    {
+        self.transform.transform_point(p).plus(self.offset)
+    }
+
+    // A point of the list, by the point rule. Where its x strays its y is not computed, and so raises no flag of the processor; little is left of the
+    // second look at x when this is compiled.
     fn spot(self, p: Point) -> Option<Spot>
         ensures { result ≡ spot_at self.transform self.offset p }
     {
-        fixed::from_point(self.transform.transform_point(p).plus(self.offset))
+        fixed::to_fixed(self.place(p).x)?;
+        fixed::from_point(self.place(p))
     }
 
     // How many of a point's coordinates are cut, unless the point rule refuses it.
@@ -164,10 +164,10 @@ impl View {
     fn rule_two(self, a: Point, b: Point) -> Result<u32, Refusal>
         ensures { result ≡ points_ruled self.transform self.offset (a ∷ b ∷ []) }
     {
-        both(self.rule_point(a), self.rule_point(b))
+        Ok(self.rule_point(a)? + self.rule_point(b)?)
     }
 
-    // Every point of a command by the point rule.
+    // Every point of a command by the point rule. What stands behind one that strays is not computed, and so raises no flag of the processor.
     fn rule_points(self, k: Command) -> Result<u32, Refusal>
         ensures { result ≡ points_ruled self.transform self.offset (points_of k) }
     {
@@ -175,7 +175,7 @@ impl View {
             Command::MoveTo(p) => self.rule_point(p),
             Command::LineTo(p) => self.rule_point(p),
             Command::QuadTo(c, p) => self.rule_two(c, p),
-            Command::CurveTo(c, d, p) => both(self.rule_point(c), self.rule_two(d, p)),
+            Command::CurveTo(c, d, p) => Ok(self.rule_point(c)? + self.rule_two(d, p)?),
             Command::Close => Ok(0),
         }
     }

@@ -1,8 +1,9 @@
--- `float::ceil` meets its contract: the library's ceil is the rule's (`proofs/Library.antt`), since a parameter fits its format. Assumes nothing.
-use mathlib.Core.Path.{◌∙◌}
-use denote.Floats.{passes}
-use Rattle.float.proofs.Library.{library_ceil}
+-- `float::ceil` meets its contract. Assumes nothing.
+use mathlib.Core.Path.{ap}
+use lib.Ieee.{neg}
+use Rattle.float.specs.Round.{ceil_of}
 use Rattle.float.proofs.ceil.Goals as goal
 
 pub returns : goal.returns
-returns c = c.ceil.ensures ∙ library_ceil c.args.v (passes _ c.well_formed.0.1)
+unfolding ceil_of
+returns c = ap neg c.floor.ensures
