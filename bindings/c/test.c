@@ -1450,6 +1450,7 @@ static void nothing_is_computed_behind_a_far_coordinate(void) {
     for (size_t at = 0; at < LENGTH(far_ones); at += 1) {
         nothing_is_computed_behind(far_ones[at]);
     }
+    /* A scale rounds y before the offset is added. */
     MzLabel label = mz_label(4, 3);
     label.transform = mz_scale(3, 3);
     List list = one_move(1366, 0.1f);

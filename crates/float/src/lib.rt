@@ -103,7 +103,7 @@ pub fn floor(v: f32) -> f32
     }
 }
 
-// v rounded up to a whole number.
+// v rounded up to a whole number: down, mirrored, and so by the bits too.
 pub fn ceil(v: f32) -> f32
     ensures { result ≡ ceil_of v }
 {
